@@ -1,0 +1,3 @@
+// Examples of the library's calls at the edges of what is allowed, as tests.
+#[cfg(test)]
+mod tests;
