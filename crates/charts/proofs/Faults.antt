@@ -50,13 +50,13 @@ repeats-none ms apart = ⊎-elim
 -- what a search for the move at i among the moves before it tells
 module _ (ms : List Move) (i : ℕ) (d : Move) (r : Option ℕ) (within : i < length ms)
     (first : First (λ m. same-move m (getD ms i d)) (take (i - 0) ms) r) where
-  before : (k : ℕ) → k < length (take (i - 0) ms) → k < i
-  before k h = omega (arith, length-take (i - 0) ms)
+  before-length : length (take (i - 0) ms) ≡ i
+  before-length = omega (arith, length-take (i - 0) ms)
 
   pub found-before : isSome r ≡ true → repeats ms ≡ true
   found-before found =
       let f = first-found (λ m. same-move m (getD ms i d)) (take (i - 0) ms) r first found in
-      let early = before (f .0) (f .1) in
+      let early : f .0 < i = let l = f .1 in omega (arith, before-length) in
       let same : getD ms (f .0) d ≡ getD ms i d =
       sym (getD-take (i - 0) ms (f .0) d (omega arith)) ∙ same-decides _ _ .0 (f .2 d) in
       repeats-at ms (f .0) i early within
@@ -66,7 +66,7 @@ module _ (ms : List Move) (i : ℕ) (d : Move) (r : Option ℕ) (within : i < le
   none-before missing e k b low early =
       ap (same-move (getD ms k b)) (getD-default ms i e d within)
       ∙ ap (λ m. same-move m (getD ms i d)) (sym (getD-take (i - 0) ms k b (omega arith)))
-      ∙ first-missing (λ m. same-move m (getD ms i d)) (take (i - 0) ms) r first missing k b low (omega (arith, length-take (i - 0) ms))
+      ∙ first-missing (λ m. same-move m (getD ms i d)) (take (i - 0) ms) r first missing k b low (omega (arith, before-length))
 
 pub repeats-decides : (ms : List Move) → Decides (repeats ms) (Repeated ms)
 repeats-decides ms = (repeated ms, λ r. repeats-at ms (r .0) (r .1) (r .2) (r .3) (r .4))

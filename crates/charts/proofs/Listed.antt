@@ -1,7 +1,7 @@
 -- The word of the listed moves between two states, and the chart of a list. Assumes nothing.
 use Prim.Native.Nat.{ℕ, _+_, _<_, _≤_}
 use mathlib.Core.Path.{_≡_, sym, ap, ap₂, _∙_, subst}
-use mathlib.Core.Bool.{false, _||_}
+use mathlib.Core.Bool.{false, _||_, or-false}
 use mathlib.Core.List.{List, []}
 use mathlib.Core.Logic.{inl, inr, ⊎-elim}
 use native.Mathlib.Omega.{arith}
@@ -12,11 +12,11 @@ use Rattle.std.specs.shelf.Lists.{Has}
 use Rattle.std.proofs.shelf.Tests.{cases-lt, cond-false}
 use Rattle.std.proofs.shelf.Ways.{tells, decides-like, not-from-decides}
 use Rattle.words.specs.Bits.{bit, word-of}
-use Rattle.words.proofs.Bits.{bit-past, bit-packed, packed-is, packed-same}
+use Rattle.words.proofs.Bits.{bit-none, bit-packed, packed-is, packed-same}
 use Rattle.charts.specs.Meaning.{chart-of}
 use Rattle.charts.specs.MoveList.{move, same-move, same-decides, listed, faulty, list-chart, Moves-as-listed, Fault, too-many-states, state-outside, label-over-31}
 use Rattle.charts.specs.declared.move_list.Move.{Move}
-use Rattle.charts.proofs.Places.{some-decides, some-take, or-false}
+use Rattle.charts.proofs.Places.{some-decides, some-take}
 use Rattle.charts.proofs.Faults.{faulty-decides}
 use Rattle.charts.proofs.Meanings.{moves-decides}
 
@@ -32,7 +32,7 @@ module _ (p q : ℕ) (m : Move) where
 
 -- the word of the listed moves from p to q: none yet, and one move more
 pub word-none : (p q : ℕ) → 0 ≡ word-of (λ a. listed [] p a q)
-word-none p q = packed-is 32 0 (λ a. false) (omega arith) (λ a _. bit-past 0 0 a (omega arith) (omega arith))
+word-none p q = packed-is 32 0 (λ a. false) (omega arith) (λ a _. bit-none a)
 
 module _ (ms : List Move) (i : ℕ) (d : Move) (within : i < length ms) (p q : ℕ) where
   pub word-then : getD ms i d .from ≡ p → getD ms i d .to ≡ q

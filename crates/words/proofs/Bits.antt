@@ -32,6 +32,10 @@ unfolding bit
 bit-past k w a fits past =
     ap (λ (x : ℕ). eqb (x % 2) 1) (div-eq-of-lt (let fits-a : w < 2 ^ a = omega (arith, pow-mono past) in fits-a))
 
+-- 0 has no bit
+pub bit-none : (a : ℕ) → bit 0 a ≡ false
+bit-none a = bit-past 0 0 a (omega arith) (omega arith)
+
 -- two numbers of k bits with the same bits are equal
 digit-same : (x y : ℕ) → x < 2 → y < 2 → eqb x 1 ≡ eqb y 1 → x ≡ y
 digit-same x y hx hy e = grind (arith, tells)
@@ -114,7 +118,7 @@ bit-not (suc k) w (suc a) hw ha =
 -- a power of two has one bit
 pub bit-pow : (b a : ℕ) → bit (2 ^ b) a ≡ eqb a b
 bit-pow zero zero = low-bit 1 1 0 refl (omega arith)
-bit-pow zero (suc a) = high-bit 1 1 0 refl (omega arith) a ∙ bit-past 0 0 a (omega arith) (omega arith) ∙ grind (arith, tells)
+bit-pow zero (suc a) = high-bit 1 1 0 refl (omega arith) a ∙ bit-none a ∙ grind (arith, tells)
 bit-pow (suc b) zero = low-bit (2 ^ suc b) 0 (2 ^ b) (omega (arith, pow-suc 2 b)) (omega arith) ∙ grind (arith, tells)
 bit-pow (suc b) (suc a) =
     high-bit (2 ^ suc b) 0 (2 ^ b) (omega (arith, pow-suc 2 b)) (omega arith) a ∙ bit-pow b a ∙ grind (arith, tells)
