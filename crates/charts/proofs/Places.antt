@@ -1,4 +1,4 @@
--- The elements of a list that pass a test, by places. Assumes nothing.
+-- The numbers below a bound, and the elements of a list by their places, that pass a test. Assumes nothing.
 use Prim.Native.Nat.{ℕ, zero, suc, _+_, _<_}
 use mathlib.Core.Path.{_≡_, refl, sym, ap, _∙_}
 use mathlib.Core.Bool.{Bool, true, false, _||_, or-false, or-assoc}
@@ -9,11 +9,16 @@ use Rattle.std.specs.Options.{mapped, isSome}
 use Rattle.std.specs.Orderings.{Decides}
 use Rattle.std.specs.shelf.Lists.{At, Every}
 use Rattle.std.proofs.shelf.Lists.{at-drop-more, take-more}
-use Rattle.std.proofs.shelf.Ways.{decides-by-or, same-from-decides}
+use Rattle.std.proofs.shelf.Ways.{decides-by-or, decides-below-or, same-from-decides}
 use Rattle.std.specs.declared.option.Option.{Option}
 use Rattle.std.specs.declared.option.Option.the-variants.{Some, None}
 use Rattle.std.proofs.shelf.Tests.{cond-true, cond-false, or-left, false≢true}
-use Rattle.charts.specs.Search.{some, first-place, First, Equivalence}
+use Rattle.charts.specs.Search.{some-below, some, first-place, First, Equivalence}
+
+-- some number passes exactly when there is one
+pub some-below-decides : (test : ℕ → Bool) (n : ℕ) → Decides (some-below n test) ((k : ℕ) × (k < n) × (test k ≡ true))
+unfolding some-below
+some-below-decides test = decides-below-or test (λ k. test k ≡ true) (λ n. some-below n test) (λ k. (λ e. e, λ e. e)) refl (λ _. refl)
 
 module _ {X : Type 0} (test : X → Bool) where
   -- only one answer is the first

@@ -1,6 +1,6 @@
--- Records that are the same, and the first of a list that is the same as a given one.
+-- Searches: some number below a bound, some element of a list, and the first element that is the same as a given one.
 -- Assumes nothing.
-use Prim.Native.Nat.{ℕ, suc, _<_}
+use Prim.Native.Nat.{ℕ, zero, suc, _<_}
 use mathlib.Core.Path.{_≡_, refl, sym, _∙_}
 use mathlib.Core.Bool.{Bool, true, false, cond, _||_}
 use mathlib.Core.List.{List, [], _∷_}
@@ -24,6 +24,11 @@ equality same decides = record {
   symmetric = λ x y e. decides y x .1 (sym (decides x y .0 e));
   transitive = λ x y z e f. decides x z .1 (decides x y .0 e ∙ decides y z .0 f);
 }
+
+-- some number below n passes the test
+unfoldable pub some-below : ℕ → (ℕ → Bool) → Bool
+some-below zero test = false
+some-below (suc n) test = test n || some-below n test
 
 -- some element of the list passes the test
 abbrev pub some : {X : Type 0} → (X → Bool) → List X → Bool

@@ -71,6 +71,9 @@ bit-packed f (suc k) zero h = low-bit _ _ _ refl (digit-lt (f 0)) ∙ digit-is (
 bit-packed f (suc k) (suc a) h =
     high-bit _ _ _ refl (digit-lt (f 0)) a ∙ bit-packed (λ b. f (suc b)) k a (omega arith)
 
+pub bit-of-packed : (k w : ℕ) (f : ℕ → Bool) → w ≡ packed f k → (a : ℕ) → a < k → bit w a ≡ f a
+bit-of-packed k w f is a h = ap (λ v. bit v a) is ∙ bit-packed f k a h
+
 pub packed-is : (k w : ℕ) (f : ℕ → Bool) → w < 2 ^ k → ((a : ℕ) → a < k → bit w a ≡ f a) → w ≡ packed f k
 packed-is k w f fits bits = bits-same k w (packed f k) fits (packed-lt f k) (λ a h. bits a h ∙ sym (bit-packed f k a h))
 

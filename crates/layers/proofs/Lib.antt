@@ -1,0 +1,4 @@
+pub mod Truth
+pub mod Hiding
+pub mod Sheets
+pub mod Quieting

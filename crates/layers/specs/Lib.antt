@@ -1,0 +1,3 @@
+pub mod Hide
+pub mod Quiet
+pub mod Sheet
