@@ -7,6 +7,7 @@ use mathlib.Core.Logic.{⊎-elim}
 use native.Mathlib.Omega.{arith}
 use lib.Dec.{ltb}
 use lib.ListN.{length, getD, set, replicate}
+use Rattle.std.specs.Orderings.{Decides}
 use Rattle.std.specs.shelf.Lists.{countBy}
 use Rattle.std.proofs.shelf.Lists.{length-set, getD-replicate, getD-past, getD-set-same, getD-set-other}
 use Rattle.std.proofs.shelf.Counted.{fill-by-all}
@@ -87,9 +88,12 @@ module _ (n : ℕ) (few : n ≤ 128) (step : ℕ → ℕ → Bool) (start : ℕ)
     complete (stays below) = walked .begins below
     complete (goes-on {r} {q} path s below) = walked .closed r q (over r (complete path)) below s
 
+    pub walk-decides : (q : ℕ) → Decides (getD seen q false) (Reached n step start q)
+    walk-decides q = (walked .sound q, complete)
+
     pub walk-ends : seen ≡ marks (reaches n step start)
     walk-ends = fill-by-all (reaches n step start) seen 128 false (walked .all-seen)
-        (λ q _. same-from-decides _ _ (walked .sound q, complete) (reaches-decides n step start q))
+        (λ q _. same-from-decides _ _ (walk-decides q) (reaches-decides n step start q))
 
 -- a state that becomes done was not done
 pub fewer-left : (done : List Bool) (p : ℕ) → p < length done → getD done p false ≡ false → countBy not (set done p true) < countBy not done

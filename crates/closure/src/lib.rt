@@ -6,7 +6,8 @@ ghost use mathlib.Core.Bool.{Bool, true, false, _&&_, _||_};
 ghost use lib.Dec.{ltb};
 ghost use lib.ListN.{getD};
 ghost use Rattle.std.specs.Options.{Cases as BySome};
-ghost use Rattle.closure.specs.Closure.{reaches, marks, Reaches-by-steps};
+ghost use Rattle.std.specs.Orderings.{Decides};
+ghost use Rattle.closure.specs.Closure.{Reached, reaches, marks, Reaches-by-steps};
 
 // Only states below this number are walked.
 const STATES: usize = 128;
@@ -25,6 +26,7 @@ pub trait Steps {
 // A mark for each of 128 states: those that zero or more steps lead to from the start, through states below the count and 128.
 pub fn reached_from<S: Steps>(steps: &S, count: usize, start: usize) -> Marks
     ensures value { λ r. ⌜ r ≡ marks (reaches (min count 128) (step (now (steps .entry))) start) ⌝ }
+    ensures marks_what_is_reached { λ r. ⌜ ((q : ℕ) → Decides (getD r q false) (Reached (min count 128) (step (now (steps .entry))) start q)) ⌝ }
     ensures reaches_by_steps { λ _. ⌜ Reaches-by-steps ⌝ }
 {
     let n = count.min(STATES);

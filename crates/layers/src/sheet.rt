@@ -101,33 +101,33 @@ fn all_or_none(mark: bool) -> u32
 pub(crate) fn product_of(
     heap: Global,
     n: usize,
-    v: &[u32],
-    w: &[u32],
+    first: &[u32],
+    second: &[u32],
 ) -> Result<Vec<u32>, AllocError>
     requires few { ⌜ n ≤ 128 ⌝ }
-    requires v_full { ⌜ length (now v) ≡ n * n ⌝ }
-    requires w_full { ⌜ length (now w) ≡ n * n ⌝ }
-    ensures made { λ r. ⌜ made r (λ x. vec-items x ≡ sheet n (product n (now (v .entry)) (now (w .entry)))) ⌝ }
+    requires first_full { ⌜ length (now first) ≡ n * n ⌝ }
+    requires second_full { ⌜ length (now second) ≡ n * n ⌝ }
+    ensures made { λ r. ⌜ made r (λ x. vec-items x ≡ sheet n (product n (now (first .entry)) (now (second .entry)))) ⌝ }
 {
     let mut words = Vec::new(heap);
     for i in 0..n * n {
-        words.push(labels_by_way(n, v, w, i / n, i % n))?;
+        words.push(labels_by_way(n, first, second, i / n, i % n))?;
     }
     Ok(words)
 }
 
 // The labels by which p moves in the first sheet to some state, and this in the second to q.
-fn labels_by_way(n: usize, v: &[u32], w: &[u32], p: usize, q: usize) -> u32
+fn labels_by_way(n: usize, first: &[u32], second: &[u32], p: usize, q: usize) -> u32
     requires few { ⌜ n ≤ 128 ⌝ }
-    requires v_full { ⌜ length (now v) ≡ n * n ⌝ }
-    requires w_full { ⌜ length (now w) ≡ n * n ⌝ }
+    requires first_full { ⌜ length (now first) ≡ n * n ⌝ }
+    requires second_full { ⌜ length (now second) ≡ n * n ⌝ }
     requires p_below { ⌜ p < n ⌝ }
     requires q_below { ⌜ q < n ⌝ }
-    ensures value { λ r. ⌜ r ≡ word-of (λ a. product n (now (v .entry)) (now (w .entry)) p a q) ⌝ }
+    ensures value { λ r. ⌜ r ≡ word-of (λ a. product n (now (first .entry)) (now (second .entry)) p a q) ⌝ }
 {
     let mut word = 0;
     for r in 0..n {
-        word = union(word, intersection(v[p * n + r], w[r * n + q]));
+        word = union(word, intersection(first[p * n + r], second[r * n + q]));
     }
     word
 }

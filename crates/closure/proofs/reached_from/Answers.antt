@@ -1,8 +1,11 @@
-use Prim.Native.Nat.{_≤_}
-use mathlib.Core.Path.{_∙_, ap}
+use Prim.Native.Nat.{ℕ, _≤_}
+use mathlib.Core.Path.{_∙_, ap, subst}
+use mathlib.Core.Bool.{false}
+use lib.ListN.{getD}
+use Rattle.std.specs.Orderings.{Decides}
 use native.Mathlib.Omega.{arith}
-use Rattle.closure.specs.Closure.{reaches, marks}
-use Rattle.closure.proofs.Walk.{walk-begins, walk-begins-nowhere, walk-goes-on, walk-ends, fewer-left}
+use Rattle.closure.specs.Closure.{Reached, reaches, marks}
+use Rattle.closure.proofs.Walk.{walk-begins, walk-begins-nowhere, walk-goes-on, walk-decides, walk-ends, fewer-left}
 use Rattle.closure.proofs.Paths.{reaches-decides}
 use Rattle.closure.proofs.reached_from.Needs as need
 use Rattle.closure.proofs.reached_from.Needs.{then-start-n, else-start-n}
@@ -29,5 +32,7 @@ returns g c =
     record {
       value = walk-ends _ few _ _ _ _ (c .loop-p .inv) (c .in-rest .ensures tt .cases)
           ∙ ap (λ n. marks (reaches n (g .S·Steps .step (c .args .steps .now)) (c .args .start))) (c .min-n .ensures);
+      marks-what-is-reached = subst (λ n. (q : ℕ) → Decides (getD (c .loop-p .seen) q false) (Reached n (g .S·Steps .step (c .args .steps .now)) (c .args .start) q))
+          (c .min-n .ensures) (walk-decides _ few _ _ _ _ (c .loop-p .inv) (c .in-rest .ensures tt .cases));
       reaches-by-steps = reaches-decides;
     }

@@ -26,7 +26,7 @@ product-of-requires g c κs =
     let reach = c .in-Continue-reach .reach in
     let moves-long : vec-len moves ≡ n * n = moves .ok .0 ∙ sheet-long n (m .count) _ n-is (c .in-Continue-moves .ensures tt .made) in
     let reach-long : vec-len reach ≡ n * n = reach .ok .0 ∙ sheet-long n n _ refl (c .in-Continue-reach .ensures tt .made) in
-    record { few = few-is m n n-is; v-full = omega arith; w-full = omega arith }
+    record { few = few-is m n n-is; first-full = omega arith; second-full = omega arith }
 
 pub product-of-requires-2 : need.product-of-requires-2
 product-of-requires-2 g c κs =
@@ -36,7 +36,7 @@ product-of-requires-2 g c κs =
     let before = c .in-Continue-before .before in
     let reach-long : vec-len reach ≡ n * n = reach .ok .0 ∙ sheet-long n n _ refl (c .in-Continue-reach .ensures tt .made) in
     let before-long : vec-len before ≡ n * n = before .ok .0 ∙ sheet-long n n _ refl (c .in-Continue-before .ensures tt .made) in
-    record { few = few-is m n (c .count-n .ensures .answers-the-count); v-full = omega arith; w-full = omega arith }
+    record { few = few-is m n (c .count-n .ensures .answers-the-count); first-full = omega arith; second-full = omega arith }
 
 pub returns : need.returns
 returns g c =

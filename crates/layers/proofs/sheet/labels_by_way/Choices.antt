@@ -7,4 +7,4 @@ use Rattle.layers.proofs.sheet.labels_by_way.Given as given
 
 -- the labels by way of the states below r
 abbrev pub Inv-loop-r : given.InvT-loop-r
-Inv-loop-r l = l .word ≡ word-of (λ a. some-below (l .r) (λ r. moves-in (l .n) (l .v) (l .p) a r && moves-in (l .n) (l .w) r a (l .q)))
+Inv-loop-r l = l .word ≡ word-of (λ a. some-below (l .r) (λ r. moves-in (l .n) (l .first) (l .p) a r && moves-in (l .n) (l .second) r a (l .q)))

@@ -8,8 +8,8 @@ loop-i-holds c = c .new-words .ensures .items ∙ cells-none _ _
 pub labels-by-way-requires : need.labels-by-way-requires
 labels-by-way-requires c κs = record {
   few = c .pre .few;
-  v-full = c .pre .v-full;
-  w-full = c .pre .w-full;
+  first-full = c .pre .first-full;
+  second-full = c .pre .second-full;
   p-below = row-below (c .args .n) (c .loop-i .i) (c .loop-i-test .taken);
   q-below = column-below (c .args .n) (c .loop-i .i) (c .loop-i-test .taken);
 }
