@@ -1,6 +1,6 @@
 -- The word of the listed moves between two states, and the chart of a list. Assumes nothing.
 use Prim.Native.Nat.{ℕ, _+_, _<_, _≤_}
-use mathlib.Core.Path.{_≡_, sym, ap, ap₂, _∙_, subst}
+use mathlib.Core.Path.{_≡_, refl, sym, ap, ap₂, _∙_, subst}
 use mathlib.Core.Bool.{false, _||_, or-false}
 use mathlib.Core.List.{List, []}
 use mathlib.Core.Logic.{inl, inr, ⊎-elim}
@@ -12,7 +12,7 @@ use Rattle.std.specs.shelf.Lists.{Has}
 use Rattle.std.proofs.shelf.Tests.{cases-lt, cond-false}
 use Rattle.std.proofs.shelf.Ways.{tells, decides-like, not-from-decides}
 use Rattle.words.specs.Bits.{bit, word-of}
-use Rattle.words.proofs.Bits.{bit-none, bit-packed, packed-is, packed-same}
+use Rattle.words.proofs.Bits.{bit-of-packed, packed-none, packed-same}
 use Rattle.charts.specs.Meaning.{chart-of}
 use Rattle.charts.specs.MoveList.{move, same-move, same-decides, listed, faulty, list-chart, Moves-as-listed, Fault, too-many-states, state-outside, label-over-31}
 use Rattle.charts.specs.declared.move_list.Move.{Move}
@@ -32,15 +32,15 @@ module _ (p q : ℕ) (m : Move) where
 
 -- the word of the listed moves from p to q: none yet, and one move more
 pub word-none : (p q : ℕ) → 0 ≡ word-of (λ a. listed [] p a q)
-word-none p q = packed-is 32 0 (λ a. false) (omega arith) (λ a _. bit-none a)
+word-none p q = packed-none 32 _ (λ _ _. refl)
 
 module _ (ms : List Move) (i : ℕ) (d : Move) (within : i < length ms) (p q : ℕ) where
   pub word-then : getD ms i d .from ≡ p → getD ms i d .to ≡ q
       → (w s : ℕ) → w ≡ word-of (λ a. listed (take i ms) p a q) → s ≡ word-of (λ b. eqb b (getD ms i d .label))
       → word-of (λ a. bit w a || bit s a) ≡ word-of (λ a. listed (take (i + 1) ms) p a q)
   word-then hp hq w s is-w is-s = packed-same 32 _ _ (λ a h.
-      ap₂ _||_ (ap (λ v. bit v a) is-w ∙ bit-packed (λ a. listed (take i ms) p a q) 32 a h)
-      (ap (λ v. bit v a) is-s ∙ bit-packed (λ b. eqb b (getD ms i d .label)) 32 a h ∙ sym (same-between p q (getD ms i d) hp hq a))
+      ap₂ _||_ (bit-of-packed 32 w _ is-w a h)
+      (bit-of-packed 32 s _ is-s a h ∙ sym (same-between p q (getD ms i d) hp hq a))
       ∙ sym (some-take (same-move (move p a q)) ms i d within))
 
   pub word-else : (getD ms i d .from ≡ p → getD ms i d .to ≡ q → ⊥)

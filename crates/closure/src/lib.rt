@@ -15,6 +15,7 @@ const STATES: usize = 128;
 // A mark for each state.
 pub type Marks = [bool; 128];
 
+// A relation on states that can be asked.
 pub trait Steps {
     // There is a step from the first state to the second.
     ghost step: { Self → ℕ → ℕ → Bool };

@@ -1,7 +1,7 @@
 -- What a chart has once a set of labels is hidden. Assumes nothing.
 use Prim.Native.Nat.{ℕ, zero, suc, _^_, _<_}
 use mathlib.Core.Path.{_≡_, refl, sym, ap, subst, _∙_}
-use mathlib.Core.Bool.{Bool, true, false, not, _&&_, _||_, and-true}
+use mathlib.Core.Bool.{Bool, true, false, not, _&&_, _||_}
 use mathlib.Core.Logic.{_⊎_, ⊎-elim}
 use native.Mathlib.Omega.{arith}
 use lib.Dec.{eqb, ltb}
@@ -14,7 +14,7 @@ use Rattle.charts.specs.Meaning.{Meaning, has-move}
 use Rattle.charts.specs.Search.{some-below}
 use Rattle.charts.proofs.Meanings.{count-is, moves-are, move-inside}
 use Rattle.charts.proofs.Places.{some-below-decides}
-use Rattle.layers.proofs.Truth.{or-no-more}
+use Rattle.layers.proofs.Truth.{and-no-less, or-no-more}
 use Rattle.layers.specs.Hide.{hidden-move, move-once-hidden, hide}
 
 module _ (set : ℕ) (m : Meaning) where
@@ -138,7 +138,7 @@ module _ (set : ℕ) (m : Meaning) (p q : ℕ) (w others hidden both : ℕ) (w-i
   pub told-more : (told : ℕ) → told ≡ word-of (λ a. bit w a || bit 1 a) → (both ≡ 0 → ⊥)
       → (a : ℕ) → a < 32 → bit told a ≡ (bit w a || (eqb a 0 && hidden-move set m p q))
   told-more told is some a h =
-      bit-of-packed 32 told _ is a h ∙ ap (λ b. bit w a || b) (bit-pow 0 a ∙ sym (and-true (eqb a 0)) ∙ ap (λ b. eqb a 0 && b) (sym (some-hidden some)))
+      bit-of-packed 32 told _ is a h ∙ ap (λ b. bit w a || b) (bit-pow 0 a ∙ and-no-less (eqb a 0) _ (some-hidden some))
 
   pub told-same : (told : ℕ) → told ≡ w → both ≡ 0 → (a : ℕ) → a < 32 → bit told a ≡ (bit w a || (eqb a 0 && hidden-move set m p q))
   told-same told is none a h =

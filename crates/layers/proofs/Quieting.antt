@@ -5,9 +5,9 @@ use mathlib.Core.Bool.{Bool, true, _&&_}
 use mathlib.Core.List.{List}
 use mathlib.Core.Logic.{_⊎_, inl, inr, ⊎-elim}
 use native.Mathlib.Omega.{arith}
-use lib.Dec.{eqb, ltb}
+use lib.Dec.{eqb}
 use Rattle.std.specs.Orderings.{Decides}
-use Rattle.std.proofs.shelf.Tests.{and-parts, and-from, or-left, or-right, or-cases, eqb-true, eq-eqb, lt-ltb}
+use Rattle.std.proofs.shelf.Tests.{and-parts, and-from, or-left, or-right, or-cases, eqb-true, eq-eqb}
 use Rattle.std.proofs.shelf.Ways.{decides-at, decides-like, same-from-decides}
 use Rattle.closure.specs.Closure.{Reached, stays, goes-on}
 use Rattle.closure.proofs.Paths.{start-below, end-below, joins, reached-by, reaches-decides}
@@ -17,7 +17,7 @@ use Rattle.charts.proofs.Meanings.{count-is, moves-are, move-inside, same-moves
 use Rattle.charts.proofs.Places.{some-below-decides}
 use Rattle.layers.specs.Quiet.{silent-move, Quiet-path, quietly, quiet-move, quiet}
 use Rattle.layers.specs.Sheet.{sheet, moves-in, sheet-chart, silent-in, move-or-stay, reach-in, product}
-use Rattle.layers.proofs.Sheets.{sheet-moves, sheet-same, sheet-chart-is}
+use Rattle.layers.proofs.Sheets.{sheet-moves, sheet-same, sheet-chart-is, silent-inside}
 
 -- some state below n with two tests
 pub some-with : (n : ℕ) (f g : ℕ → Bool) (F G : ℕ → Type 0) → ((k : ℕ) → k < n → Decides (f k) (F k)) → ((k : ℕ) → k < n → Decides (g k) (G k))
@@ -117,20 +117,16 @@ module _ (m : Meaning) (moves reach before : List ℕ)
       → moves-in (m .count) words p a q ≡ f p a q
   read words f is p a q hp hq ha = ap (λ w. moves-in (m .count) w p a q) is ∙ sheet-moves (m .count) f p a q hp hq ha
 
-  silent-step : (p q : ℕ) → p < m .count → q < m .count → Decides (silent-in (m .count) moves p q) (move-or-stay m p 0 q ≡ true)
-  unfolding silent-in
-  silent-step p q hp hq = (
-    λ e. sym (read moves _ moves-is p 0 q hp hq (omega arith)) ∙ and-parts (ltb p (m .count) && ltb q (m .count)) _ e .1,
-    λ e. and-from _ _ (and-from _ _ (lt-ltb p (m .count) hp) (lt-ltb q (m .count) hq)) (read moves _ moves-is p 0 q hp hq (omega arith) ∙ e),
-  )
+  silent-step : (p q : ℕ) → p < m .count → q < m .count → silent-in (m .count) moves p q ≡ move-or-stay m p 0 q
+  silent-step p q hp hq = sym (silent-inside (m .count) moves p q hp hq _ refl) ∙ read moves _ moves-is p 0 q hp hq (omega arith)
 
   -- what the sheet reaches silently is what the chart does
   to-quiet : {p q : ℕ} → Reached (m .count) (silent-in (m .count) moves) p q → Quiet-path m p q
-  to-quiet = reached-by (silent-move m) (λ p q hp hq e. silent-on m p p q (stays hp) (silent-step p q hp hq .0 e))
+  to-quiet = reached-by (silent-move m) (λ p q hp hq e. silent-on m p p q (stays hp) (sym (silent-step p q hp hq) ∙ e))
 
   from-quiet : {p q : ℕ} → Quiet-path m p q → Reached (m .count) (silent-in (m .count) moves) p q
   from-quiet = reached-by (silent-in (m .count) moves)
-      (λ p q hp hq e. goes-on (stays hp) (silent-step p q hp hq .1 (stay-from-move m p 0 q e)) hq)
+      (λ p q hp hq e. goes-on (stays hp) (silent-step p q hp hq ∙ stay-from-move m p 0 q e) hq)
 
   reach-decides : (p a q : ℕ) → p < m .count → q < m .count → a < 32 → Decides (moves-in (m .count) reach p a q) (Quiet-path m p q)
   unfolding reach-in
@@ -173,31 +169,32 @@ quiet-made m n n-is moves reach before moves-is reach-is before-is =
 -- the quiet chart of a quiet chart
 module _ (m : Meaning) where
   -- a quiet path of the quiet chart is a quiet path of the chart
-  flat : {p q : ℕ} → Quiet-path (quiet m) p q → Quiet-path m p q
-  flat {p} {q} path =
+  path-below : {p q : ℕ} → Quiet-path (quiet m) p q → Quiet-path m p q
+  path-below {p} {q} path =
       reached-by (silent-move m) (λ r s _ _ e. silent-by-quiet-paths m r s .0 e)
       (subst (λ n. Reached n (silent-move (quiet m)) p q) (quiet-count m) path)
 
-  steep : {p q : ℕ} → Quiet-path m p q → Quiet-path (quiet m) p q
-  steep {p} {q} path =
+  -- and the other way round
+  path-above : {p q : ℕ} → Quiet-path m p q → Quiet-path (quiet m) p q
+  path-above {p} {q} path =
       subst (λ n. Reached n (silent-move (quiet m)) p q) (sym (quiet-count m))
       (goes-on (stays (start-below (m .count) (silent-move m) path)) (silent-by-quiet-paths m p q .1 path) (end-below (m .count) (silent-move m) path))
 
   quiet-again : (p a q : ℕ) → has-move (quiet (quiet m)) p a q ≡ has-move (quiet m) p a q
   quiet-again p zero q =
-      same-from-decides _ _ (decides-like _ flat steep (silent-by-quiet-paths (quiet m) p q)) (silent-by-quiet-paths m p q)
+      same-from-decides _ _ (decides-like _ path-below path-above (silent-by-quiet-paths (quiet m) p q)) (silent-by-quiet-paths m p q)
   quiet-again p (suc a) q =
       same-from-decides _ _
       (decides-like _
       (λ h. let inner = visible-between-quiet-paths m (h .0) (suc a) (h .1) (omega arith) .0 (h .3) in
-      (inner .0, inner .1, joins (m .count) (silent-move m) (flat (h .2)) (inner .2), inner .3, joins (m .count) (silent-move m) (inner .4) (flat (h .4))))
+      (inner .0, inner .1, joins (m .count) (silent-move m) (path-below (h .2)) (inner .2), inner .3, joins (m .count) (silent-move m) (inner .4) (path-below (h .4))))
       (λ h. (
         h .0,
         h .1,
-        steep (h .2),
+        path-above (h .2),
         visible-between-quiet-paths m (h .0) (suc a) (h .1) (omega arith) .1
             (h .0, h .1, stays (end-below (m .count) (silent-move m) (h .2)), h .3, stays (start-below (m .count) (silent-move m) (h .4))),
-        steep (h .4),
+        path-above (h .4),
       ))
       (visible-between-quiet-paths (quiet m) p (suc a) q (omega arith)))
       (visible-between-quiet-paths m p (suc a) q (omega arith))

@@ -1,7 +1,7 @@
 -- Sheets of words: how one is made word by word, and the moves that it has. Assumes nothing.
 use Prim.Native.Nat.{ℕ, zero, suc, _+_, _*_, _/_, _%_, _^_, _<_, _≤_}
 use mathlib.Core.Path.{_≡_, refl, sym, ap, ap₂, subst, _∙_}
-use mathlib.Core.Bool.{Bool, true, false, not, _&&_, _||_, and-true, or-comm}
+use mathlib.Core.Bool.{Bool, true, false, not, _&&_, _||_, or-comm}
 use mathlib.Core.List.{List, [], _∷_, _++_, map}
 use native.Mathlib.Numerals.{add-one}
 use Rattle.std.specs.Iters.{counting}
@@ -15,14 +15,14 @@ use Rattle.std.proofs.shelf.Tests.{eq-eqb, ne-eqb, and-from, and-left, and-righ
 use Rattle.std.proofs.shelf.Counted.{length-map-counting, getD-map-counting, map-counting-more, fill-by-all}
 use Rattle.std.proofs.shelf.Bits.{mul-add-lt, div-mul-add, mod-mul-add, div-below, mod-below}
 use Rattle.words.specs.Bits.{bit, word-of}
-use Rattle.words.proofs.Bits.{bit-packed, bit-of-packed, bit-pow, bit-none, packed-is, packed-same}
+use Rattle.words.proofs.Bits.{bit-packed, bit-of-packed, bit-pow, bit-none, packed-is, packed-none, packed-same}
 use Rattle.charts.specs.Meaning.{Meaning, has-move, chart-of}
 use Rattle.charts.proofs.Meanings.{count-is, word-inside, word-outside, moves-decides, same-moves}
 use Rattle.std.proofs.shelf.Ways.{same-from-decides, decides-like}
 use Rattle.layers.specs.Sheet.{cell, cells, sheet, moves-in, silent-in, move-or-stay, sheet-chart}
-use Rattle.layers.proofs.Truth.{or-no-more}
+use Rattle.layers.proofs.Truth.{and-no-less, or-no-more}
 
--- a chart's count is small
+-- a number that is a chart's count is at most 128
 pub few-is : (m : Meaning) (n : ℕ) → n ≡ m .count → n ≤ 128
 few-is m n is = subst (λ k. k ≤ 128) (sym is) (m .few)
 
@@ -41,6 +41,10 @@ row-below n i h = div-below i n n (some-states n i h) h
 pub column-below : (n i : ℕ) → i < n * n → i % n < n
 column-below n i h = mod-below i n (some-states n i h)
 
+-- a list made from a function of the index, and one element more
+pub counted-more : {X : Type 0} (f : ℕ → X) (i : ℕ) (xs : List X) (x : X) → xs ≡ map f (counting 0 i) → x ≡ f i → xs ++ x ∷ [] ≡ map f (counting 0 (i + 1))
+counted-more f i xs x before is = ap₂ (λ ys y. ys ++ y ∷ []) before is ∙ sym (map-counting-more f 0 i i (omega arith))
+
 module _ (n : ℕ) (f : ℕ → ℕ → ℕ → Bool) where
   pub cells-none : [] ≡ cells n f 0
   unfolding cells
@@ -49,7 +53,7 @@ module _ (n : ℕ) (f : ℕ → ℕ → ℕ → Bool) where
   -- one word more
   pub cells-more : (i : ℕ) (xs : List ℕ) (x : ℕ) → xs ≡ cells n f i → x ≡ word-of (λ a. f (i / n) a (i % n)) → xs ++ x ∷ [] ≡ cells n f (i + 1)
   unfolding cells cell
-  cells-more i xs x before is = ap₂ (λ ys y. ys ++ y ∷ []) before is ∙ sym (map-counting-more (cell n f) 0 i i (omega arith))
+  cells-more = counted-more (cell n f)
 
   -- every word
   pub cells-all : (i : ℕ) (xs : List ℕ) → xs ≡ cells n f i → i ≤ n * n → n * n ≤ i → xs ≡ sheet n f
@@ -82,7 +86,7 @@ module _ (m : Meaning) (p q w : ℕ) (is : w ≡ m .word p q) where
   unfolding move-or-stay
   word-and-stay r same r-is =
       r-is ∙ packed-same 32 _ _ (λ a _. ap₂ (λ b c. b || c) (ap (λ v. bit v a) is)
-      (bit-pow 0 a ∙ sym (and-true (eqb a 0)) ∙ ap (λ b. eqb a 0 && b) (sym (eq-eqb p q same))))
+      (bit-pow 0 a ∙ and-no-less (eqb a 0) _ (eq-eqb p q same)))
 
   pub word-alone : (p ≡ q → ⊥) → w ≡ word-of (λ a. move-or-stay m p a q)
   unfolding move-or-stay
@@ -90,17 +94,14 @@ module _ (m : Meaning) (p q w : ℕ) (is : w ≡ m .word p q) where
       packed-is 32 w _ (subst (λ v. v < 2 ^ 32) (sym is) (m .fits p q))
       (λ a _. ap (λ v. bit v a) is ∙ or-no-more (has-move m p a q) (eqb a 0) _ (ne-eqb p q other))
 
--- the words of every label, of none, and of one test more among the numbers below a bound
-pub word-none : (f : ℕ → Bool) → ((a : ℕ) → f a ≡ false) → 0 ≡ word-of f
-word-none f none = packed-is 32 0 f (omega arith) (λ a _. bit-none a ∙ sym (none a))
-
+-- the words of every label, and of one test more among the numbers below a bound
 pub word-all : (w : ℕ) (f : ℕ → Bool) → w ≡ word-of (λ a. not (bit 0 a)) → ((a : ℕ) → f a ≡ true) → w ≡ word-of f
 word-all w f is all = is ∙ packed-same 32 _ f (λ a _. ap not (bit-none a) ∙ sym (all a))
 
 module _ (test : ℕ → ℕ → Bool) where
   pub ways-none : 0 ≡ word-of (λ a. some-below 0 (test a))
   unfolding some-below
-  ways-none = word-none _ (λ _. refl)
+  ways-none = packed-none 32 _ (λ _ _. refl)
 
   pub ways-more : (r word meet next : ℕ) → word ≡ word-of (λ a. some-below r (test a)) → meet ≡ word-of (λ a. test a r)
       → next ≡ word-of (λ a. bit word a || bit meet a) → next ≡ word-of (λ a. some-below (r + 1) (test a))
@@ -110,10 +111,6 @@ module _ (test : ℕ → ℕ → Bool) where
       ap₂ (λ b c. b || c) (bit-of-packed 32 word _ word-is a h) (bit-of-packed 32 meet _ meet-is a h)
       ∙ or-comm (some-below r (test a)) (test a r)
       ∙ ap (λ k. some-below k (test a)) (sym (add-one r)))
-
--- a row of marks more
-pub marks-more : (f : ℕ → List Bool) (p : ℕ) (rows : List (List Bool)) (row : List Bool) → rows ≡ map f (counting 0 p) → row ≡ f p → rows ++ row ∷ [] ≡ map f (counting 0 (p + 1))
-marks-more f p rows row before is = ap₂ (λ ys y. ys ++ y ∷ []) before is ∙ sym (map-counting-more f 0 p p (omega arith))
 
 -- a mark read from the rows
 pub mark-read : (n : ℕ) (f : ℕ → ℕ → Bool) (rows : List (List Bool)) (p q : ℕ) (row : List Bool) → n ≤ 128 → p < n → q < n

@@ -44,4 +44,4 @@ reach-in n words p a q = reaches n (silent-in n words) p q
 
 -- p moves by a in the first sheet to some state, and this moves by a in the second to q
 unfoldable pub product : ℕ → List ℕ → List ℕ → ℕ → ℕ → ℕ → Bool
-product n v w p a q = some-below n (λ r. moves-in n v p a r && moves-in n w r a q)
+product n first second p a q = some-below n (λ r. moves-in n first p a r && moves-in n second r a q)

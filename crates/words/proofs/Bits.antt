@@ -6,7 +6,7 @@ use native.Mathlib.Nat.{pow-suc, div-one, zero-lt-suc, div-eq-of-lt}
 use native.Mathlib.Omega.{arith}
 use lib.Dec.{eqb}
 use lib.Bits.{bitAnd, bitOr, and-step, or-step}
-use lib.Pow.{pow-mono, shr-shr}
+use lib.Pow.{pow-mono, pow-pos, shr-shr}
 use Rattle.std.proofs.shelf.Ways.{tells}
 use Rattle.words.specs.Bits.{bit, packed}
 
@@ -76,6 +76,9 @@ bit-of-packed k w f is a h = ap (λ v. bit v a) is ∙ bit-packed f k a h
 
 pub packed-is : (k w : ℕ) (f : ℕ → Bool) → w < 2 ^ k → ((a : ℕ) → a < k → bit w a ≡ f a) → w ≡ packed f k
 packed-is k w f fits bits = bits-same k w (packed f k) fits (packed-lt f k) (λ a h. bits a h ∙ sym (bit-packed f k a h))
+
+pub packed-none : (k : ℕ) (f : ℕ → Bool) → ((a : ℕ) → a < k → f a ≡ false) → 0 ≡ packed f k
+packed-none k f none = packed-is k 0 f (let p = pow-pos k in omega arith) (λ a h. bit-none a ∙ sym (none a h))
 
 pub packed-same : (k : ℕ) (f g : ℕ → Bool) → ((a : ℕ) → a < k → f a ≡ g a) → packed f k ≡ packed g k
 packed-same k f g same = packed-is k (packed f k) g (packed-lt f k) (λ a h. bit-packed f k a h ∙ same a h)

@@ -3,7 +3,7 @@ use Prim.Native.Nat.{_^_}
 use native.Mathlib.Omega.{arith}
 use Rattle.std.proofs.shelf.Bits.{one-shl, pow-below}
 use Rattle.std.proofs.shelf.Ways.{tells}
-use Rattle.words.proofs.Bits.{packed-is, packed-lt, bit-packed, bit-pow, bit-none}
+use Rattle.words.proofs.Bits.{packed-is, packed-lt, bit-packed, bit-pow, packed-none}
 use Rattle.words.proofs.singleton.Needs as need
 
 pub returns-then-label-lt32 : need.returns-then-label-lt32
@@ -16,7 +16,7 @@ returns-then-label-lt32 c = record {
 
 pub returns-else-label-lt32 : need.returns-else-label-lt32
 returns-else-label-lt32 c = record {
-  value = packed-is 32 0 _ (omega arith) (λ a h. bit-none a ∙ grind (arith, tells));
+  value = packed-none 32 _ (λ a h. grind (arith, tells));
   word-has-its-labels = λ f a h. bit-packed f 32 a h;
   word-fits = λ f. packed-lt f 32;
 }
