@@ -1,5 +1,7 @@
 // How long quiet charts take to make and to ask, on chains of silent moves of up to 128 states.
 // Standard output has what was found, and is compared; standard error has the times.
+#![tactic(auto)]
+
 use charts::chart::Chart;
 use charts::move_list::{Move, MoveList};
 use layers::quiet::Quiet;

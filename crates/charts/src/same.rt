@@ -15,9 +15,9 @@ pub trait Same {
 
 // The place of the first record that is the same as the wanted one, if one is.
 pub fn first_same<T: Same>(records: &[T], wanted: &T) -> Option<usize>
-    ensures value { result ≡ first_place (λ x. same x wanted.now) records.now }
-    ensures first { First (λ x. same x wanted.now) records.now result }
-    ensures by_sameness_alone { (y : T) → same y wanted.now ≡ true → result ≡ first_place (λ x. same x y) records.now }
+    ensures value { result ≡ first_place (λ x. T.same x wanted.now) records.now }
+    ensures first { First (λ x. T.same x wanted.now) records.now result }
+    ensures by_sameness_alone { (y : T) → T.same y wanted.now ≡ true → result ≡ first_place (λ x. T.same x y) records.now }
 {
     for i in 0..records.len() {
         if records[i].is_same(wanted) {

@@ -1,5 +1,7 @@
 // The closure of a relation on states: which states are reached from a state by zero or more steps.
 // What is reached is said in specs/Closure.antt, by paths and by a test.
+#![tactic(auto)]
+
 ghost use Rattle.std.specs.Prelude.{◌≡◌, ℕ, ◌<◌, ◌≤◌, min, Bool, true, false, ◌&&◌, ◌||◌, Decides, MatchOption, nat_lt, slice_index_or};
 ghost use Rattle.closure.specs.Closure.{Reached, reaches, marks, ReachesBySteps};
 
@@ -20,8 +22,8 @@ pub trait Steps {
 
 // A mark for each of 128 states: those that zero or more steps lead to from the start, through states below the count and 128.
 pub fn reached_from<S: Steps>(steps: &S, count: usize, start: usize) -> Marks
-    ensures value { result ≡ marks (reaches (min count 128) (step steps.now) start) }
-    ensures marks_what_is_reached { (q : ℕ) → Decides (slice_index_or result q false) (Reached (min count 128) (step steps.now) start q) }
+    ensures value { result ≡ marks (reaches (min count 128) (S.step steps.now) start) }
+    ensures marks_what_is_reached { (q : ℕ) → Decides (slice_index_or result q false) (Reached (min count 128) (S.step steps.now) start q) }
     ensures reaches_by_steps { ReachesBySteps }
 {
     let n = count.min(STATES);
@@ -52,7 +54,7 @@ fn pending(seen: &Marks, done: &Marks) -> Option<usize>
 // Marks the targets below n of the steps from p.
 fn mark_targets<S: Steps>(steps: &S, n: usize, p: usize, seen: &mut Marks)
     requires { n ≤ 128 }
-    ensures marked { (q : ℕ) → slice_index_or seen.new q false ≡ (slice_index_or seen.old q false || (nat_lt q n && step steps.now p q)) }
+    ensures marked { (q : ℕ) → slice_index_or seen.new q false ≡ (slice_index_or seen.old q false || (nat_lt q n && S.step steps.now p q)) }
 {
     for q in 0..n {
         if steps.has_step(p, q) {

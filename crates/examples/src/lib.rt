@@ -1,4 +1,6 @@
 // Examples of the library's calls at the edges of what is allowed, as tests.
+#![tactic(auto)]
+
 #[cfg(test)]
 mod closure_tests;
 #[cfg(test)]

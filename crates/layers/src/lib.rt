@@ -2,6 +2,8 @@
 //   hide   labels of a set made silent
 //   quiet  silent moves taken together
 //   sheet  the moves of a chart kept as a sheet of words, for the making of a quiet chart
+#![tactic(auto)]
+
 pub mod hide;
 pub mod quiet;
 mod sheet;

@@ -4,6 +4,8 @@
 //   attack   whether a pair of states has an attack under a sheet of levels
 //   rounds   the rounds that give pairs their levels, and the call that settles a pair
 //   refusal  what a refused call answers
+#![tactic(auto)]
+
 mod attack;
 pub mod moves;
 pub mod refusal;

@@ -1,6 +1,8 @@
 // Settles pairs of states: of the scan dialogue of a station, where in the first version the volunteer picks chill or shelf and in the second
 // the handheld has picked already, and of chains of visible moves, which take the most rounds.
 // Standard output has what was found, and is compared; standard error has the times.
+#![tactic(auto)]
+
 mod dialogues;
 
 use charts::move_list::{Move, MoveList};

@@ -1,5 +1,7 @@
 // The scan dialogue of a food bank's station, told by move lists in two versions, a list with a slip, and a dialogue with a silent step.
 // In the first version the volunteer picks chill or shelf after the scan; in the second the handheld has picked already.
+#![tactic(auto)]
+
 mod dialogues;
 mod telling;
 

@@ -1,6 +1,8 @@
 // Settles many pairs of states, strongly and weakly, for a comparison with another program's answers.
 // Each line of the input is a trial: count, two states, a limit of rounds, and then moves, three numbers each. A line of the output has
 // the strong answer and the weak one.
+#![tactic(auto)]
+
 use charts::chart::Chart;
 use charts::move_list::{Move, MoveList};
 use layers::quiet::Quiet;

@@ -1,5 +1,7 @@
 // Words: sets of labels 0 to 31, each kept in the bits of a 32-bit number.
 // What a word means is in specs/Bits.antt, by the labels that it has.
+#![tactic(auto)]
+
 ghost use Rattle.std.specs.Prelude.{◌≡◌, not, ◌&&◌, ◌||◌, nat_eq};
 ghost use Rattle.words.specs.Bits.{bit, word_of, WordHasItsLabels, WordFits, NoLabelPast31, WordsAreTheirLabels};
 
