@@ -9,6 +9,6 @@ loop-p-preserved c =
     let n = c.args.n in
     let words = c.args.words.now in
     let few : min n 128 ≡ n = omega (arith, c.requires.few) in
-    c.in-ok-push.ensures.items
+    c.in_ok-push.ensures.items
     ∙ counted_more (λ p. marks (reaches n (silent_in n words) p)) c.loop-p.p _ _ c.loop-p.invariant
-    (c.reached-from.ensures.value ∙ ap (λ k. marks (reaches k (silent_in n words) c.loop-p.p)) few)
+    (c.reached_from.ensures.value ∙ ap (λ k. marks (reaches k (silent_in n words) c.loop-p.p)) few)

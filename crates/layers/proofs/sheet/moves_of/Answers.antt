@@ -7,7 +7,7 @@ pub loop-i-init : goal.loop-i-init
 loop-i-init g c = c.new-words.ensures.items ∙ cells_none _ _
 
 pub loop-i-preserved : goal.loop-i-preserved
-loop-i-preserved g c = c.in-ok-push.ensures.items ∙ cells_more _ _ _ _ _ c.loop-i.invariant c.move_or_stay.ensures.value
+loop-i-preserved g c = c.in_ok-push.ensures.items ∙ cells_more _ _ _ _ _ c.loop-i.invariant c.move_or_stay.ensures.value
 
 pub returns : goal.returns
 returns g c = record {

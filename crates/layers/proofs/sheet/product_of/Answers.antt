@@ -5,8 +5,8 @@ use Rattle.layers.proofs.sheet.product_of.Goals as goal
 pub loop-i-init : goal.loop-i-init
 loop-i-init c = c.new-words.ensures.items ∙ cells_none _ _
 
-pub labels-by-way-requires : goal.labels-by-way-requires
-labels-by-way-requires c = record {
+pub labels_by_way-requires : goal.labels_by_way-requires
+labels_by_way-requires c = record {
   few = c.requires.few;
   first_full = c.requires.first_full;
   second_full = c.requires.second_full;
@@ -15,4 +15,4 @@ labels-by-way-requires c = record {
 }
 
 pub loop-i-preserved : goal.loop-i-preserved
-loop-i-preserved c = c.in-ok-push.ensures.items ∙ cells_more _ _ _ _ _ c.loop-i.invariant c.labels-by-way.ensures.value
+loop-i-preserved c = c.in_ok-push.ensures.items ∙ cells_more _ _ _ _ _ c.loop-i.invariant c.labels_by_way.ensures.value

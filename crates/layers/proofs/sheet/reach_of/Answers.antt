@@ -12,9 +12,9 @@ loop-i-init c = c.new-reach.ensures.items ∙ cells_none _ _
 pub index-requires : goal.index-requires
 index-requires c =
     let n = c.args.n in
-    let rows = c.in-ok-rows.rows in
+    let rows = c.in_ok-rows.rows in
     let row : c.loop-i.i / n < n = row_below n c.loop-i.i c.loop-i-test.true in
-    let long : length (vec_items rows) ≡ n = ap length c.in-ok-rows.ensures.made ∙ length-map-range_with_len (λ p. marks (reaches n (silent_in n c.args.words.now) p)) 0 n in
+    let long : length (vec_items rows) ≡ n = ap length c.in_ok-rows.ensures.made ∙ length-map-range_with_len (λ p. marks (reaches n (silent_in n c.args.words.now) p)) 0 n in
     let len : vec_len rows ≡ length (vec_items rows) = rows.ok.0 in
     omega arith
 
@@ -23,9 +23,9 @@ unfolding reach_in
 loop-i-preserved c =
     let n = c.args.n in
     let i = c.loop-i.i in
-    c.in-ok-push.ensures.items
+    c.in_ok-push.ensures.items
     ∙ cells_more _ _ _ _ _ c.loop-i.invariant
-    (c.all-or-none.ensures.value
+    (c.all_or_none.ensures.value
     ∙ ap (λ mark. word_of (λ _. mark))
-    (mark_read n (reaches n (silent_in n c.args.words.now)) (vec_items c.in-ok-rows.rows) (i / n) (i % n) c.index.result.now c.requires.few
-    (row_below n i c.loop-i-test.true) (column_below n i c.loop-i-test.true) c.in-ok-rows.ensures.made c.index.ensures))
+    (mark_read n (reaches n (silent_in n c.args.words.now)) (vec_items c.in_ok-rows.rows) (i / n) (i % n) c.index.result.now c.requires.few
+    (row_below n i c.loop-i-test.true) (column_below n i c.loop-i-test.true) c.in_ok-rows.ensures.made c.index.ensures))

@@ -21,6 +21,6 @@ returns g c =
     let enough = le-leb (m.count * m.count) _ (omega arith) in
     record {
       answer = sym (cond-true _ _ _ enough);
-      moves_after = c.write-words.ensures.moves_after ∙ sym (cond-true _ _ _ enough);
+      moves_after = c.write_words.ensures.moves_after ∙ sym (cond-true _ _ _ enough);
       pairs_stand_in_place = pairs_in_place;
     }

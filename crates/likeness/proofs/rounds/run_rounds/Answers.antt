@@ -9,8 +9,8 @@ rounds-init c =
     running_start c.args.n c.args.moves.now c.args.p c.args.q c.args.limit c.args.levels.now
     c.requires.few c.requires.p_below c.requires.q_below c.requires.levels_clear
 
-pub run-round-given-requires : goal.run-round-given-requires
-run-round-given-requires c =
+pub run_round-given-requires : goal.run_round-given-requires
+run_round-given-requires c =
     let below = running_below c.rounds.invariant in
     record {
       few = c.requires.few;
@@ -20,8 +20,8 @@ run-round-given-requires c =
       levels_before = running_levels c.rounds.invariant;
     }
 
-pub overflow-add-rounds : goal.overflow-add-rounds
-overflow-add-rounds c =
+pub overflow_add-rounds : goal.overflow_add-rounds
+overflow_add-rounds c =
     let below = running_below c.rounds.invariant in
     omega (arith, c.requires.few)
 
@@ -31,10 +31,10 @@ bounds-levels-p c =
 
 pub returns-then-depth-gt0 : goal.returns-then-depth-gt0
 returns-then-depth-gt0 c =
-    let given = c.run-round-given.ensures.given in
+    let given = c.run_round-given.ensures.given in
     let below : c.rounds.rounds < c.args.limit = omega arith in
     let found = run_settles c.rounds.invariant
-    below c.run-round-given.ensures.levels_after
+    below c.run_round-given.ensures.levels_after
     (elim c.then-depth-gt0.branch [
       | then-depth-gt0-via-then-depth-gt0 w ↦ inl w.if-depth-gt0.true
       | then-depth-gt0-via-else-depth-gt0+then-not-given w ↦ inr (w.if-depth-gt0.false, sym given ∙ w.if-not-given.true)
@@ -45,8 +45,8 @@ pub rounds-preserved : goal.rounds-preserved
 rounds-preserved c =
     let below : c.rounds.rounds < c.args.limit = omega arith in
     running_on c.rounds.invariant
-    below c.run-round-given.ensures.levels_after
-    c.if-depth-gt0.false (sym c.run-round-given.ensures.given ∙ c.if-not-given.false)
+    below c.run_round-given.ensures.levels_after
+    c.if-depth-gt0.false (sym c.run_round-given.ensures.given ∙ c.if-not-given.false)
 
 pub returns : goal.returns
 returns c =

@@ -89,8 +89,8 @@ returns-then-moves-n g c =
     (elim c.then-moves-n.branch [ then-moves-n-via-then-moves-n w ↦ inl w.if-moves-n.true | then-moves-n-via-else-moves-n+then-levels-n w ↦ inr w.if-levels-n.true ]) in
     with_laws (call_facts m c.args.p c.args.q c.args.limit moves levels (Some (bare 12)) refused)
 
-pub run-rounds-requires : goal.run-rounds-requires
-run-rounds-requires g c = record {
+pub run_rounds-requires : goal.run_rounds-requires
+run_rounds-requires g c = record {
   few = few_is (g.C.Chart.meaning c.args.chart.now) c.count-n.result c.count-n.ensures.answers_the_count;
   moves_suffice = omega arith;
   levels_suffice = omega arith;
@@ -111,14 +111,14 @@ returns g c =
     let q = c.args.q in
     let limit = c.args.limit in
     let taken = not_refused m n is p q moves levels c.if-p-n.false c.if-q-n.false c.if-moves-n.false c.if-levels-n.false in
-    let chart : sheet_chart n c.write-words.new.moves ≡ m = ap (sheet_chart n) c.write-words.ensures.moves_after ∙ filled_chart m n is moves in
+    let chart : sheet_chart n c.write_words.new.moves ≡ m = ap (sheet_chart n) c.write_words.ensures.moves_after ∙ filled_chart m n is moves in
     let told = call_facts m p q limit moves levels None taken in
     with_laws (
-      c.run-rounds.ensures.answer ∙ ap (λ o. settled_answer o p q limit) chart ∙ told.0,
-      c.write-words.ensures.moves_after ∙ told.1,
-      c.run-rounds.ensures.levels_after
-          ∙ ap (λ d. laid (by_pairs n (level_to (sheet_chart n c.write-words.new.moves) (min limit (rounds_needed (sheet_chart n c.write-words.new.moves) p q)))) d) c.clear.ensures.levels_after
-          ∙ laid_pairs_again n (level_to (sheet_chart n c.write-words.new.moves) (min limit (rounds_needed (sheet_chart n c.write-words.new.moves) p q))) (λ _ _. 0) levels
+      c.run_rounds.ensures.answer ∙ ap (λ o. settled_answer o p q limit) chart ∙ told.0,
+      c.write_words.ensures.moves_after ∙ told.1,
+      c.run_rounds.ensures.levels_after
+          ∙ ap (λ d. laid (by_pairs n (level_to (sheet_chart n c.write_words.new.moves) (min limit (rounds_needed (sheet_chart n c.write_words.new.moves) p q)))) d) c.clear.ensures.levels_after
+          ∙ laid_pairs_again n (level_to (sheet_chart n c.write_words.new.moves) (min limit (rounds_needed (sheet_chart n c.write_words.new.moves) p q))) (λ _ _. 0) levels
           ∙ ap₂ (λ k o. laid (by_pairs k (level_to o (min limit (rounds_needed o p q)))) levels) is chart
           ∙ told.2,
     )

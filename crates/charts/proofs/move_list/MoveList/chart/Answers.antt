@@ -15,9 +15,9 @@ returns c =
     let moves = c.args.self.moves.now in
     let decides = faulty_decides count moves in
     let counted : c.match-check.count ≡ cond (faulty count moves) 0 count = elim c.match-check.branch [
-      | in-Ok w ↦ w.count_is ∙ sym (cond-false (faulty count moves) 0 count
+      | in-Ok w ↦ w.count-is ∙ sym (cond-false (faulty count moves) 0 count
           (sym (same_from_decides false (faulty count moves) w.in-Ok.ensures.refused_exactly_for_a_fault decides)))
-      | in-Err w ↦ w.count_is ∙ sym (cond-true (faulty count moves) 0 count
+      | in-Err w ↦ w.count-is ∙ sym (cond-true (faulty count moves) 0 count
           (sym (same_from_decides true (faulty count moves) w.in-Err.ensures.refused_exactly_for_a_fault decides)))
     ] in
     let same : chart_of c.match-check.count (listed moves) ≡ list_chart count moves = ap (λ n. chart_of n (listed moves)) counted in

@@ -18,5 +18,5 @@ returns g c =
             | then-intersection-ne0 v ↦ told_more set m c.args.p c.args.q _ _ _ _ w_is others_is hidden_is both_is _ (v.told-is ∙ v.union-told.ensures.value) v.if-intersection-ne0.true
             | else-intersection-ne0 v ↦ told_same set m c.args.p c.args.q _ _ _ _ w_is others_is hidden_is both_is _ v.told-is v.if-intersection-ne0.false
           ])
-          c.complement-2.ensures.value c.intersection-2.ensures.value c.intersection-2.type-inv;
+          c.complement-2.ensures.value c.intersection-2.ensures.value c.intersection-2.type_inv;
     }

@@ -4,8 +4,8 @@ use Rattle.layers.proofs.Sheets.{few_is, sheet_long}
 use Rattle.layers.proofs.Quieting.{quiet_count, silent_by_quiet_paths, visible_between_quiet_paths, quiet_of_quiet, quiet_kept}
 use Rattle.layers.proofs.quiet.Quiet.over.Goals as goal
 
-pub returns-in-err-words : goal.returns-in-err-words
-returns-in-err-words g c = record {
+pub returns-in_err-words : goal.returns-in_err-words
+returns-in_err-words g c = record {
   meaning = IfOk-from_err c.from-residual.result _ c.from-residual.ensures.0;
   quiet_keeps_the_states = quiet_count;
   silent_by_quiet_paths = silent_by_quiet_paths;
@@ -13,17 +13,17 @@ returns-in-err-words g c = record {
   quiet_of_quiet = quiet_of_quiet;
 }
 
-pub invariant-of-result : goal.invariant-of-result
-invariant-of-result g c =
+pub invariant_of-result : goal.invariant_of-result
+invariant_of-result g c =
     let m = g.C.Chart.meaning c.args.below.now in
     let n = c.count-count.result in
     let n_is = c.count-count.ensures.answers_the_count in
-    let words = c.in-ok-words.words in
-    (few_is m n n_is, (words.ok.0 ∙ sheet_long n m.count _ n_is c.in-ok-words.ensures.made, tt))
+    let words = c.in_ok-words.words in
+    (few_is m n n_is, (words.ok.0 ∙ sheet_long n m.count _ n_is c.in_ok-words.ensures.made, tt))
 
 pub returns : goal.returns
 returns g c = record {
-  meaning = quiet_kept (g.C.Chart.meaning c.args.below.now) _ _ c.count-count.ensures.answers_the_count c.in-ok-words.ensures.made;
+  meaning = quiet_kept (g.C.Chart.meaning c.args.below.now) _ _ c.count-count.ensures.answers_the_count c.in_ok-words.ensures.made;
   quiet_keeps_the_states = quiet_count;
   silent_by_quiet_paths = silent_by_quiet_paths;
   visible_between_quiet_paths = visible_between_quiet_paths;

@@ -4,36 +4,36 @@ use Rattle.layers.proofs.Sheets.{sheet_chart_count}
 use Rattle.likeness.specs.Reading.{chart_on, levels_on, LowerReached}
 use Rattle.likeness.proofs.Nest.{labels_more, label_lacking, no_attack, attack_found}
 use Rattle.likeness.proofs.sheets.Sheets.attacks.Goals as goal
-use Rattle.likeness.proofs.sheets.Sheets.attacks.Goals.{else-has-move-via-then-has-move+else-not-is-lower, else-has-move-via-else-has-move}
+use Rattle.likeness.proofs.sheets.Sheets.attacks.Goals.{else-has_move-via-then-has_move+else-not-is_lower, else-has_move-via-else-has_move}
 
 pub labels-preserved-then-not-contains : goal.labels-preserved-then-not-contains
 labels-preserved-then-not-contains c =
     let s = c.args.self.now in (
       c.labels.invariant.0,
       label_lacking (chart_on s) (LowerReached c.args.side c.args.k (levels_on s)) c.args.mover c.args.answerer c.labels.a
-          (λ move. both_ways _ c.if-not-contains.true (c.contains.ensures.value ∙ (c.labels-of-offered.ensures.tells c.labels.a c.labels-test.true).1 move))
+          (λ move. both_ways _ c.if-not-contains.true (c.contains.ensures.value ∙ (c.labels_of-offered.ensures.tells c.labels.a c.labels-test.true).1 move))
           c.labels.invariant.1,
     )
 
-pub targets-preserved-then-not-has-move : goal.targets-preserved-then-not-has-move
-targets-preserved-then-not-has-move c =
-    (c.targets.invariant.0, below_more _ _ c.targets.invariant.1 (λ move. absurd (both_ways _ (sym c.has-move.ensures.value ∙ c.if-not-has-move.true) move)))
+pub targets-preserved-then-not-has_move : goal.targets-preserved-then-not-has_move
+targets-preserved-then-not-has_move c =
+    (c.targets.invariant.0, below_more _ _ c.targets.invariant.1 (λ move. absurd (both_ways _ (sym c.has_move.ensures.value ∙ c.if-not-has_move.true) move)))
 
 pub targets-preserved : goal.targets-preserved
 targets-preserved c = (
   c.targets.invariant.0,
   below_more _ _ c.targets.invariant.1 (λ _. (
     c.answers.u,
-    sym c.has-move-in-answers.ensures.value ∙ c.if-has-move.true,
-    λ low. both_ways _ c.if-not-is-lower.true (c.is-lower.ensures.tells.1 low),
+    sym c.has_move-in-answers.ensures.value ∙ c.if-has_move.true,
+    λ low. both_ways _ c.if-not-is_lower.true (c.is_lower.ensures.tells.1 low),
   )),
 )
 
 pub answers-preserved : goal.answers-preserved
 answers-preserved c = below_more _ _ c.answers.invariant (λ move.
-    elim c.else-has-move.branch [
-      | else-has-move-via-then-has-move+else-not-is-lower w ↦ w.is-lower.ensures.tells.0 w.if-not-is-lower.false
-      | else-has-move-via-else-has-move w ↦ absurd (both_ways _ (sym c.has-move-in-answers.ensures.value ∙ w.if-has-move.false) move)
+    elim c.else-has_move.branch [
+      | else-has_move-via-then-has_move+else-not-is_lower w ↦ w.is_lower.ensures.tells.0 w.if-not-is_lower.false
+      | else-has_move-via-else-has_move w ↦ absurd (both_ways _ (sym c.has_move-in-answers.ensures.value ∙ w.if-has_move.false) move)
     ])
 
 pub labels-preserved : goal.labels-preserved
@@ -63,7 +63,7 @@ returns-after-answers c =
     record {
       tells = (
         λ _. attack_found (chart_on s) (LowerReached c.args.side c.args.k (levels_on s)) c.args.mover c.args.answerer
-            c.labels.a c.targets.t c.answers.u few (sym c.has-move.ensures.value ∙ c.if-not-has-move.false) c.answers.invariant,
+            c.labels.a c.targets.t c.answers.u few (sym c.has_move.ensures.value ∙ c.if-not-has_move.false) c.answers.invariant,
         λ _. refl,
       );
     }

@@ -5,9 +5,9 @@ use Rattle.likeness.proofs.sheets.Sheets.is_lower.Goals as goal
 pub bounds-self-t : goal.bounds-self-t
 bounds-self-t c =
     let n = c.args.self.now.count in
-    omega (arith, place_below n c.args.t c.args.u c.requires.t-below c.requires.u-below, c.args.self.now.levels_suffice)
+    omega (arith, place_below n c.args.t c.args.u c.requires.t_below c.requires.u_below, c.args.self.now.levels_suffice)
 
 pub bounds-self-u : goal.bounds-self-u
 bounds-self-u c =
     let n = c.args.self.now.count in
-    omega (arith, place_below n c.args.u c.args.t c.requires.u-below c.requires.t-below, c.args.self.now.levels_suffice)
+    omega (arith, place_below n c.args.u c.args.t c.requires.u_below c.requires.t_below, c.args.self.now.levels_suffice)

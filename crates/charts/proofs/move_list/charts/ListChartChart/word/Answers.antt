@@ -14,6 +14,6 @@ returns-then-p-self c =
 
 pub returns : goal.returns
 returns c = record {
-  answers_the_word = c.labels-between.ensures.value
+  answers_the_word = c.labels_between.ensures.value
       ∙ sym (word_inside c.args.self.now.count c.args.self.now.few _ c.args.p c.args.q c.if-p-self.false c.if-q-self.false);
 }
