@@ -6,7 +6,7 @@ use Rattle.layers.proofs.quiet.Quiet.over.Goals as goal
 
 pub returns-in_err-words : goal.returns-in_err-words
 returns-in_err-words g c = record {
-  meaning = IfOk-from_err c.from-residual.result _ c.from-residual.ensures.0;
+  meaning = IfOk-from_err c.from_residual.result _ c.from_residual.ensures.0;
   quiet_keeps_the_states = quiet_count;
   silent_by_quiet_paths = silent_by_quiet_paths;
   visible_between_quiet_paths = visible_between_quiet_paths;
@@ -19,7 +19,7 @@ invariant_of-result g c =
     let n = c.count-count.result in
     let n_is = c.count-count.ensures.answers_the_count in
     let words = c.in_ok-words.words in
-    (few_is m n n_is, (words.ok.0 ∙ sheet_long n m.count _ n_is c.in_ok-words.ensures.made, tt))
+    record { few = few_is m n n_is; full = words.ok.0 ∙ sheet_long n m.count _ n_is c.in_ok-words.ensures.made }
 
 pub returns : goal.returns
 returns g c = record {
