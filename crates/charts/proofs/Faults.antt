@@ -1,6 +1,6 @@
 -- A move list is refused exactly for a fault. Assumes nothing.
 use Rattle.std.proofs.Common.{◌≡◌, ℕ, zero, suc, ◌-◌, ◌<◌, ◌≤◌, true, false, ◌||◌, ltb, leb, ◌⊎◌, List, [], ◌∷◌, length, get_or, take, is_some, Decides, Option, sym, refl, ap, ◌∙◌, inl, inr, ⊎_elim, arith}
-use Rattle.std.specs.List.{HoldsAt, AllWithin, ContainsAt as Has}
+use Rattle.std.specs.List.{HoldsAt, AllWithin, ContainsAt}
 use Rattle.std.proofs.ByRecursion.{has_get_or}
 use Rattle.std.proofs.lemmas.List.{length-take, get_or-take, get_or_default}
 use Rattle.std.proofs.lemmas.Bool.{or_cases, or_left, or_right, leb-true, le-leb, cases_Bool, both_ways}
@@ -82,7 +82,7 @@ module _ (count : ℕ) (moves : List Move) where
       let has = has_get_or moves i (move 0 0 0) within in
       ⊎_elim (state_outside m has) (label_over_31 m has) ((bad_decides count m).0 (bad (move 0 0 0)))
 
-  bad_place : (m : Move) → Has moves m → ((count ≤ m.from) ⊎ (count ≤ m.to)) ⊎ (31 < m.label) → Bad
+  bad_place : (m : Move) → ContainsAt moves m → ((count ≤ m.from) ⊎ (count ≤ m.to)) ⊎ (31 < m.label) → Bad
   unfolding Bad
   bad_place m has why = (has.0, has.1, λ d. ap (bad_move count) (has.2 d) ∙ (bad_decides count m).1 why)
 

@@ -1,7 +1,7 @@
 -- The word of the listed moves between two states, and the chart of a list. Assumes nothing.
 use Rattle.std.proofs.Common.{◌≡◌, ℕ, ◌+◌, ◌<◌, ◌≤◌, false, ◌||◌, eqb, List, [], length, get_or, take, Decides, sym, refl, ap, ◌∙◌, subst, ap₂, inl, inr, ⊎_elim, arith}
 use mathlib.Core.Bool.{or-false}
-use Rattle.std.specs.List.{ContainsAt as Has}
+use Rattle.std.specs.List.{ContainsAt}
 use Rattle.std.proofs.lemmas.Bool.{cases_lt, cond-false}
 use Rattle.std.proofs.lemmas.Bool.Decides.{nat_tests, Decides-like, not_from_Decides}
 use Rattle.words.specs.Bits.{bit, word_of}
@@ -43,7 +43,7 @@ module _ (ms : List Move) (i : ℕ) (d : Move) (within : i < length ms) (p q : �
       ∙ sym (some_take (same_move (move p a q)) ms i d within))
 
 -- the listed moves are those of the list
-listed_decides : (ms : List Move) (p a q : ℕ) → Decides (listed ms p a q) (Has ms (move p a q))
+listed_decides : (ms : List Move) (p a q : ℕ) → Decides (listed ms p a q) (ContainsAt ms (move p a q))
 listed_decides ms p a q =
     Decides-like (listed ms p a q)
     (λ f. (f.0, f.1, λ d. sym ((same_decides (move p a q) _).0 (f.2 d))))
@@ -61,7 +61,7 @@ module _ (count : ℕ) (ms : List Move) (good : faulty count ms ≡ false) where
   few_listed : count ≤ 128
   few_listed = ⊎_elim (λ many. absurd (no_fault (too_many_states many))) (λ h. h) (cases_lt 128 count)
 
-  good_moves : (p a q : ℕ) → Decides (bit ((chart_of count (listed ms)).word p q) a) (Has ms (move p a q))
+  good_moves : (p a q : ℕ) → Decides (bit ((chart_of count (listed ms)).word p q) a) (ContainsAt ms (move p a q))
   good_moves p a q =
       Decides-like (bit ((chart_of count (listed ms)).word p q) a)
       (λ h. (listed_decides ms p a q).0 h.3)
@@ -75,5 +75,5 @@ module _ (count : ℕ) (ms : List Move) (good : faulty count ms ≡ false) where
 
 pub list_chart_moves : (count : ℕ) (ms : List Move) → MovesAsListed (list_chart count ms) count ms
 list_chart_moves count ms good =
-    subst (λ (n : ℕ). (p a q : ℕ) → Decides (bit ((chart_of n (listed ms)).word p q) a) (Has ms (move p a q)))
+    subst (λ (n : ℕ). (p a q : ℕ) → Decides (bit ((chart_of n (listed ms)).word p q) a) (ContainsAt ms (move p a q)))
     (sym (cond-false (faulty count ms) 0 count good)) (good_moves count ms good)

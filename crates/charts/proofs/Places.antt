@@ -1,7 +1,7 @@
 -- The numbers below a bound, and the elements of a list by their places, that pass a test. Assumes nothing.
 use Rattle.std.proofs.Common.{◌≡◌, ℕ, zero, suc, ◌+◌, ◌<◌, Bool, true, false, ◌||◌, List, [], ◌∷◌, ◌++◌, length, get_or, take, drop, is_some, Some, None, Decides, Option, sym, refl, ap, ◌∙◌, arith}
 use mathlib.Core.Bool.{or-false, or_assoc}
-use Rattle.std.specs.Option.{option_map as mapped}
+use Rattle.std.specs.Option.{option_map}
 use Rattle.std.specs.List.{HoldsAt, AllWithin}
 use Rattle.std.proofs.lemmas.List.{at_drop_more, take_more}
 use Rattle.std.proofs.lemmas.Bool.Decides.{Decides-by_or, Decides-below_or, same_from_decides}
@@ -19,11 +19,11 @@ module _ {X : Type 0} (test : X → Bool) where
   first_only [] None h = refl
   first_only [] (Some i) h = absurd (let f = h.0 in omega arith)
   first_only (x ∷ xs) None h =
-      ap (mapped suc) (first_only xs None (λ k d _ l. h (suc k) d (omega arith) (omega arith)))
+      ap (option_map suc) (first_only xs None (λ k d _ l. h (suc k) d (omega arith) (omega arith)))
       ∙ sym (cond-false (test x) _ _ (h 0 x (omega arith) (omega arith)))
   first_only (x ∷ xs) (Some zero) h = sym (cond-true (test x) _ _ (h.1 x))
   first_only (x ∷ xs) (Some (suc i)) h =
-      ap (mapped suc) (first_only xs (Some i) (let f = h.0 in omega arith, h.1, λ k d _ l. h.2 (suc k) d (omega arith) (omega arith)))
+      ap (option_map suc) (first_only xs (Some i) (let f = h.0 in omega arith, h.1, λ k d _ l. h.2 (suc k) d (omega arith) (omega arith)))
       ∙ sym (cond-false (test x) _ _ (h.2 0 x (omega arith) (omega arith)))
 
   -- an answer, and none

@@ -3,7 +3,7 @@
 use Rattle.std.specs.Prelude.{◌≡◌, ℕ, ◌<◌, ◌≤◌, Bool, false, cond, ◌&&◌, ◌||◌, ◌⊎◌, List, [], ◌∷◌, length, Some, None, Decides, Option, ◌==◌, nat_le, nat_lt, slice_index_or}
 use Rattle.std.proofs.Common.{ap}
 use Rattle.std.proofs.lemmas.Bool.Decides.{Decides-like, Decides-and, Decides-eqb}
-use Rattle.std.specs.List.{ContainsAt as Has}
+use Rattle.std.specs.List.{ContainsAt}
 use Rattle.charts.specs.Meaning.{Meaning, has_move, chart_of}
 use Rattle.charts.specs.Search.{some}
 use Rattle.charts.specs.Refusals.{Told, bare}
@@ -47,8 +47,8 @@ Repeated moves = (i : ℕ) × (j : ℕ) × (i < j) × (j < length moves) × ((d 
 -- what can be wrong with a list of moves over so many states
 pub data Fault (count : ℕ) (moves : List Move) : Type 0 where
   too_many_states : 128 < count → Fault count moves
-  state_outside : (m : Move) → Has moves m → (count ≤ m.from) ⊎ (count ≤ m.to) → Fault count moves
-  label_over_31 : (m : Move) → Has moves m → 31 < m.label → Fault count moves
+  state_outside : (m : Move) → ContainsAt moves m → (count ≤ m.from) ⊎ (count ≤ m.to) → Fault count moves
+  label_over_31 : (m : Move) → ContainsAt moves m → 31 < m.label → Fault count moves
   repeated_move : Repeated moves → Fault count moves
 
 -- what the check of a list tells, if it refuses the list
@@ -70,4 +70,4 @@ stands_for c = chart_of c.count (listed c.moves.now)
 -- a chart has exactly the moves of a list that is not refused
 abbrev pub MovesAsListed : Meaning → ℕ → List Move → Type 0
 MovesAsListed m count moves =
-    faulty count moves ≡ false → (p a q : ℕ) → Decides (has_move m p a q) (Has moves (move p a q))
+    faulty count moves ≡ false → (p a q : ℕ) → Decides (has_move m p a q) (ContainsAt moves (move p a q))
