@@ -70,9 +70,9 @@ at_visible true true h false e = refl
 at_visible true false h false e = refl
 at_visible false s h false e = refl
 
-not-zero : (a : ℕ) → (a ≡ 0 → ⊥) → 0 < a
-not-zero zero h = absurd (h refl)
-not-zero (suc a) h = omega arith
+not_zero : (a : ℕ) → (a ≡ 0 → ⊥) → 0 < a
+not_zero zero h = absurd (h refl)
+not_zero (suc a) h = omega arith
 
 module _ (set : ℕ) (m : Meaning) (p q : ℕ) (w others hidden both : ℕ) (w_is : w ≡ m.word p q)
     (others_is : others ≡ word_of (λ a. not (bit 1 a))) (hidden_is : hidden ≡ word_of (λ a. bit set a && bit others a))
@@ -88,7 +88,7 @@ module _ (set : ℕ) (m : Meaning) (p q : ℕ) (w others hidden both : ℕ) (w_i
   hidden_from_bit a h e =
       let parts = and_parts (has_move m p a q) _ (sym (both_bit a h) ∙ e) in
       let visible = and_parts (bit set a) _ parts.1 in
-      let above : 0 < a = not-zero a (eqb-false a 0 (not-true (eqb a 0) visible.1)) in
+      let above : 0 < a = not_zero a (eqb-false a 0 (not-true (eqb a 0) visible.1)) in
       (hidden_decides set m p q).1 (a, above, visible.0, parts.0)
 
   no_bit : hidden_move set m p q ≡ false → (a : ℕ) → a < 32 → bit both a ≡ false

@@ -15,6 +15,20 @@ use std::time::Instant;
 // A limit of rounds that suffices for every chart.
 const ROUNDS: usize = 128;
 
+// Prints what becomes of a list when it is checked.
+fn tell_checked(rt: &HostRuntime, title: &str, list: MoveList) -> io::Result<()> {
+    let count = list.count;
+    let listed = list.moves.len();
+    println!(rt; "{title}: a list of {count} states and {listed} moves.")?;
+    match list.check() {
+        Ok(()) => println!(rt; "  The list is accepted."),
+        Err(refusal) => {
+            let number = refusal.number();
+            println!(rt; "  The list is refused, number {number}.")
+        }
+    }
+}
+
 // Prints what settling two states of a list's chart answers.
 fn tell_settled(
     rt: &HostRuntime,
@@ -77,7 +91,7 @@ fn main(rt: HostRuntime) -> io::Result<()> {
         count: 9,
         moves: &BOTH_VERSIONS,
     };
-    println!(rt; "Both versions of the scan dialogue:")?;
+    tell_checked(&rt, "Both versions", both)?;
     let mut moves = [0u32; 81];
     let mut levels = [0u8; 81];
     tell_settled(&rt, both, 0, 4, &mut moves, &mut levels)?;
