@@ -5,7 +5,8 @@ use Rattle.std.proofs.ByRecursion.{has_get_or}
 use Rattle.std.proofs.lemmas.List.{length-take, get_or-take, get_or_default}
 use Rattle.std.proofs.lemmas.Bool.{or_cases, or_left, or_right, leb-true, le-leb, cases_Bool, both_ways}
 use Rattle.std.proofs.lemmas.Bool.Decides.{Decides-or, Decides-like, Decides-ltb}
-use Rattle.charts.specs.Search.{some, First}
+use Rattle.std.specs.List.{list_any}
+use Rattle.charts.specs.Search.{First}
 use Rattle.charts.specs.MoveList.{move, same_move, same_decides, bad_move, repeats, faulty, Repeated, Fault, too_many_states, state_outside, label_over_31, repeated_move}
 use Rattle.charts.specs.declared.move_list.Move.{Move}
 use Rattle.charts.proofs.Places.{some_decides, first_found, first_missing}
@@ -19,7 +20,7 @@ repeated (m ∷ ms) e = ⊎_elim
     (0, suc f.0, omega arith, (let l = f.1 in omega arith), λ d. (same_decides m _).0 (f.2 d)))
     (λ later. let f = repeated ms later in
     (suc f.0, suc f.1, (let l = f.2 in omega arith), (let l = f.3 in omega arith), λ d. f.4 d))
-    (or_cases (some (same_move m) ms) (repeats ms) e)
+    (or_cases (list_any (same_move m) ms) (repeats ms) e)
 
 pub repeats_at : (ms : List Move) (i j : ℕ) → i < j → j < length ms → ((d : Move) → get_or ms i d ≡ get_or ms j d) → repeats ms ≡ true
 repeats_at [] i j lt within eq = absurd (omega arith)
@@ -101,5 +102,5 @@ module _ (count : ℕ) (moves : List Move) where
   unfolding faulty Bad
   faulty_decides =
       Decides-like (faulty count moves) fault_of of_fault
-      (Decides-or (ltb 128 count) (some (bad_move count) moves || repeats moves) (Decides-ltb 128 count)
-      (Decides-or (some (bad_move count) moves) (repeats moves) (some_decides (bad_move count) moves) (repeats_decides moves)))
+      (Decides-or (ltb 128 count) (list_any (bad_move count) moves || repeats moves) (Decides-ltb 128 count)
+      (Decides-or (list_any (bad_move count) moves) (repeats moves) (some_decides (bad_move count) moves) (repeats_decides moves)))

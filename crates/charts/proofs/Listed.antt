@@ -9,7 +9,8 @@ use Rattle.words.proofs.Bits.{bit_of_packed, packed_none, packed_same}
 use Rattle.charts.specs.Meaning.{chart_of}
 use Rattle.charts.specs.MoveList.{move, same_move, same_decides, listed, faulty, list_chart, MovesAsListed, Fault, too_many_states, state_outside, label_over_31}
 use Rattle.charts.specs.declared.move_list.Move.{Move}
-use Rattle.charts.proofs.Places.{some_decides, some_take}
+use Rattle.std.proofs.lemmas.List.Folds.{list_any_more}
+use Rattle.charts.proofs.Places.{some_decides}
 use Rattle.charts.proofs.Faults.{faulty_decides}
 use Rattle.charts.proofs.Meanings.{moves_decides}
 
@@ -34,13 +35,13 @@ module _ (ms : List Move) (i : ℕ) (d : Move) (within : i < length ms) (p q : �
   word_then hp hq w s is_w is_s = packed_same 32 _ _ (λ a h.
       ap₂ ◌||◌ (bit_of_packed 32 w _ is_w a h)
       (bit_of_packed 32 s _ is_s a h ∙ sym (same_between p q (get_or ms i d) hp hq a))
-      ∙ sym (some_take (same_move (move p a q)) ms i d within))
+      ∙ sym (list_any_more (same_move (move p a q)) ms i d within))
 
   pub word_else : ((get_or ms i d).from ≡ p → (get_or ms i d).to ≡ q → ⊥)
       → word_of (λ a. listed (take i ms) p a q) ≡ word_of (λ a. listed (take (i + 1) ms) p a q)
   word_else apart = packed_same 32 _ _ (λ a h.
       sym (or-false _) ∙ ap (λ b. listed (take i ms) p a q || b) (sym (not_between p q (get_or ms i d) apart a))
-      ∙ sym (some_take (same_move (move p a q)) ms i d within))
+      ∙ sym (list_any_more (same_move (move p a q)) ms i d within))
 
 -- the listed moves are those of the list
 listed_decides : (ms : List Move) (p a q : ℕ) → Decides (listed ms p a q) (ContainsAt ms (move p a q))

@@ -3,9 +3,8 @@
 use Rattle.std.specs.Prelude.{◌≡◌, ℕ, ◌<◌, ◌≤◌, Bool, false, cond, ◌&&◌, ◌||◌, ◌⊎◌, List, [], ◌∷◌, length, Some, None, Decides, Option, ◌==◌, nat_le, nat_lt, slice_index_or}
 use Rattle.std.proofs.Common.{ap}
 use Rattle.std.proofs.lemmas.Bool.Decides.{Decides-like, Decides-and, Decides-eqb}
-use Rattle.std.specs.List.{ContainsAt}
+use Rattle.std.specs.List.{ContainsAt, list_any}
 use Rattle.charts.specs.Meaning.{Meaning, has_move, chart_of}
-use Rattle.charts.specs.Search.{some}
 use Rattle.charts.specs.Refusals.{Told, bare}
 use Rattle.charts.specs.declared.move_list.Move.{Move}
 use Rattle.charts.specs.declared.move_list.ListChart.{ListChart}
@@ -16,16 +15,16 @@ move p a q = record { from = p; label = a; to = q }
 
 -- all fields equal
 unfoldable pub same_move : Move → Move → Bool
-same_move x y = (x.from == y.from && x.label == y.label) && x.to == y.to
+same_move x y = x.from == y.from && (x.label == y.label && x.to == y.to)
 
 -- two moves are the same exactly when they are equal
 pub same_decides : (x y : Move) → Decides (same_move x y) (x ≡ y)
 unfolding same_move
 same_decides x y =
     Decides-like (same_move x y)
-    (λ p i. record { from = p.0.0 i; label = p.0.1 i; to = p.1 i })
-    (λ e. ((ap (λ (m : Move). m.from) e, ap (λ (m : Move). m.label) e), ap (λ (m : Move). m.to) e))
-    (Decides-and _ _ (Decides-and _ _ (Decides-eqb x.from y.from) (Decides-eqb x.label y.label)) (Decides-eqb x.to y.to))
+    (λ p i. record { from = p.0 i; label = p.1.0 i; to = p.1.1 i })
+    (λ e. (ap (λ (m : Move). m.from) e, (ap (λ (m : Move). m.label) e, ap (λ (m : Move). m.to) e)))
+    (Decides-and _ _ (Decides-eqb x.from y.from) (Decides-and _ _ (Decides-eqb x.label y.label) (Decides-eqb x.to y.to)))
 
 -- a move with a state that is not below the count, or with a label over 31
 unfoldable pub bad_move : ℕ → Move → Bool
@@ -34,11 +33,11 @@ bad_move count m = (nat_le count m.from || nat_le count m.to) || nat_lt 31 m.lab
 -- some move of the list stands in it twice
 abbrev pub repeats : List Move → Bool
 repeats [] = false
-repeats (m ∷ ms) = some (same_move m) ms || repeats ms
+repeats (m ∷ ms) = list_any (same_move m) ms || repeats ms
 
 -- the list has over 128 states, a bad move or a repeated one
 unfoldable pub faulty : ℕ → List Move → Bool
-faulty count moves = nat_lt 128 count || (some (bad_move count) moves || repeats moves)
+faulty count moves = nat_lt 128 count || (list_any (bad_move count) moves || repeats moves)
 
 -- two places of the list hold the same move
 abbrev pub Repeated : List Move → Type 0
@@ -57,7 +56,7 @@ list_refusal count moves = cond (faulty count moves) (Some (bare 20)) None
 
 -- the move stands in the list
 abbrev pub listed : List Move → ℕ → ℕ → ℕ → Bool
-listed moves p a q = some (same_move (move p a q)) moves
+listed moves p a q = list_any (same_move (move p a q)) moves
 
 -- the chart of a list: its states and its moves, and no states where the list is refused
 abbrev pub list_chart : ℕ → List Move → Meaning

@@ -3,10 +3,9 @@ ghost use Rattle.std.specs.Prelude.{◌≤◌};
 
 mod charts;
 mod checks;
-pub mod sameness;
 
 // A move from a state, by a label, to a state.
-#[derive(Clone, Copy)]
+#[derive(Clone, Copy, PartialEq, Eq, Debug)]
 pub struct Move {
     pub from: usize,
     pub label: u8,

@@ -1,28 +1,12 @@
-// Records with a sameness, and the search for the first of a slice.
-ghost use Rattle.std.specs.Prelude.{◌≡◌, Bool, true};
-ghost use Rattle.charts.specs.Search.{Equivalence, first_place, First};
+// The search for the first record of a slice that equals a given one.
+ghost use Rattle.std.specs.Prelude.{◌≡◌, true, position};
+ghost use Rattle.charts.specs.Search.{First};
 
-pub trait Same {
-    // Two records are the same.
-    ghost same: { Self → Self → Bool };
-
-    // Sameness is reflexive, symmetric and transitive.
-    ghost lawful: { Equivalence same };
-
-    fn is_same(&self, other: &Self) -> bool
-        ensures answers_sameness { result ≡ same self.now other.now };
-}
-
-// The place of the first record that is the same as the wanted one, if one is.
-pub fn first_same<T: Same>(records: &[T], wanted: &T) -> Option<usize>
-    ensures value { result ≡ first_place (λ x. T.same x wanted.now) records.now }
-    ensures first { First (λ x. T.same x wanted.now) records.now result }
-    ensures by_sameness_alone { (y : T) → T.same y wanted.now ≡ true → result ≡ first_place (λ x. T.same x y) records.now }
+// The place of the first record that equals the wanted one, if one does.
+pub fn first_same<T: Eq>(records: &[T], wanted: &T) -> Option<usize>
+    ensures value { result ≡ position (λ x. T.eq x wanted.now) records.now }
+    ensures first { First (λ x. T.eq x wanted.now) records.now result }
+    ensures by_sameness_alone { (y : T) → T.eq y wanted.now ≡ true → position (λ x. T.eq x wanted.now) records.now ≡ position (λ x. T.eq x y) records.now }
 {
-    for i in 0..records.len() {
-        if records[i].is_same(wanted) {
-            return Some(i);
-        }
-    }
-    None
+    records.iter().position(|record| record == wanted)
 }

@@ -1,6 +1,6 @@
 // The check of a move list.
 ghost use Rattle.std.specs.Prelude.{◌≡◌, is_err, Decides};
-ghost use Rattle.charts.specs.Search.{some};
+ghost use Rattle.std.specs.List.{list_any};
 ghost use Rattle.charts.specs.Refusals.{told_by, refusal_told};
 ghost use Rattle.charts.specs.MoveList.{bad_move, repeats, list_refusal, Fault};
 
@@ -39,14 +39,9 @@ fn is_bad(m: &Move, count: usize) -> bool
 
 // Some move is bad.
 fn has_bad_move(moves: &[Move], count: usize) -> bool
-    ensures value { result ≡ some (bad_move count) moves.now }
+    ensures value { result ≡ list_any (bad_move count) moves.now }
 {
-    for m in moves {
-        if is_bad(m, count) {
-            return true;
-        }
-    }
-    false
+    moves.iter().any(|m| is_bad(m, count))
 }
 
 // Some move is the same as one before it.

@@ -6,11 +6,13 @@ use Rattle.charts.proofs.Faults.{found_before, none_before, repeats_none}
 use Rattle.charts.proofs.move_list.checks.has_repeat.Goals as goal
 
 pub returns-then-is_some : goal.returns-then-is_some
+unfolding same_move
 returns-then-is_some c = record {
   value = sym (found_before c.args.moves.now c.loop-i.i _ _ c.loop-i-test.true c.first_same.ensures.first (sym c.if-is_some.ensures));
 }
 
 pub loop-i-preserved : goal.loop-i-preserved
+unfolding same_move
 loop-i-preserved c j d h =
     let ms = c.args.moves.now in
     below_more (λ n. (e : Move) → AllWithin (λ m. same_move m (get_or ms n e) ≡ false) ms 0 n) c.loop-i.i
