@@ -27,6 +27,7 @@ pub fn reached_from<S: Steps>(steps: &S, count: usize, start: usize) -> Marks
     ensures reaches_by_steps { ReachesBySteps }
 {
     let n = count.min(STATES);
+    // Two arrays of marks: what is seen is the answer, and one array of states of the walk would have to be copied into it at the end.
     let mut seen = [false; 128];
     let mut done = [false; 128];
     if start < n {
@@ -43,12 +44,9 @@ pub fn reached_from<S: Steps>(steps: &S, count: usize, start: usize) -> Marks
 fn pending(seen: &Marks, done: &Marks) -> Option<usize>
     ensures cases { MatchOption result ((q : ℕ) → slice_index_or seen.now q false ≡ true → slice_index_or done.now q false ≡ true) (λ p. (p < 128) × (slice_index_or seen.now p false ≡ true) × (slice_index_or done.now p false ≡ false)) }
 {
-    for p in 0..STATES {
-        if seen[p] && !done[p] {
-            return Some(p);
-        }
-    }
-    None
+    seen.iter()
+        .zip(done)
+        .position(|(seen, done)| *seen && !*done)
 }
 
 // Marks the targets below n of the steps from p.
@@ -56,9 +54,9 @@ fn mark_targets<S: Steps>(steps: &S, n: usize, p: usize, seen: &mut Marks)
     requires { n ≤ 128 }
     ensures marked { (q : ℕ) → slice_index_or seen.new q false ≡ (slice_index_or seen.old q false || (nat_lt q n && S.step steps.now p q)) }
 {
-    for q in 0..n {
+    for (q, mark) in seen[..n].iter_mut().enumerate() {
         if steps.has_step(p, q) {
-            seen[q] = true;
+            *mark = true;
         }
     }
 }
