@@ -150,14 +150,14 @@ module _ (m : Meaning) (moves reach before : List ℕ)
   quiet_sheet : sheet m.count (product m.count before reach) ≡ sheet m.count (quiet_move m)
   quiet_sheet = sheet_same m.count _ _ (λ p a q hp hq ha. same_from_decides _ _ (product_decides p a q hp hq ha) (quiet_decides m p a q))
 
--- the same, for a number n that is the chart's count
-pub quiet_made : (m : Meaning) (n : ℕ) → n ≡ m.count → (moves reach before : List ℕ) → moves ≡ sheet m.count (move_or_stay m)
-    → reach ≡ sheet n (reach_in n moves) → before ≡ sheet n (product n reach moves)
-    → sheet n (product n before reach) ≡ sheet m.count (quiet_move m)
-quiet_made m n n_is moves reach before moves_is reach_is before_is =
-    ap (λ k. sheet k (product k before reach)) n_is
+-- the same, for sheets whose counts are the chart's count
+pub quiet_made : (m : Meaning) (n k j : ℕ) → n ≡ m.count → k ≡ n → j ≡ k → (moves reach before : List ℕ) → moves ≡ sheet m.count (move_or_stay m)
+    → reach ≡ sheet n (reach_in n moves) → before ≡ sheet k (product k reach moves)
+    → sheet j (product j before reach) ≡ sheet m.count (quiet_move m)
+quiet_made m n k j n_is k_is j_is moves reach before moves_is reach_is before_is =
+    ap (λ i. sheet i (product i before reach)) (j_is ∙ k_is ∙ n_is)
     ∙ quiet_sheet m moves reach before moves_is
-    (reach_is ∙ ap (λ k. sheet k (reach_in k moves)) n_is) (before_is ∙ ap (λ k. sheet k (product k reach moves)) n_is)
+    (reach_is ∙ ap (λ i. sheet i (reach_in i moves)) n_is) (before_is ∙ ap (λ i. sheet i (product i reach moves)) (k_is ∙ n_is))
 
 -- the quiet chart of a quiet chart
 module _ (m : Meaning) where

@@ -1,17 +1,17 @@
 -- Sheets of words: how one is made word by word, and the moves that it has. Assumes nothing.
-use Rattle.std.proofs.Common.{◌≡◌, ℕ, zero, suc, ◌+◌, ◌*◌, ◌/◌, ◌%◌, ◌^◌, ◌<◌, ◌≤◌, Bool, true, false, not, ◌&&◌, ◌||◌, eqb, ltb, ◌⊎◌, List, [], ◌∷◌, ◌++◌, map, length, get_or, sym, refl, ap, ◌∙◌, subst, ap₂, inl, inr, add-one, arith}
+use Rattle.std.proofs.Common.{◌≡◌, ℕ, zero, suc, ◌+◌, ◌*◌, ◌/◌, ◌%◌, ◌^◌, ◌<◌, ◌≤◌, Bool, true, false, not, ◌&&◌, ◌||◌, eqb, ltb, ◌⊎◌, List, [], ◌∷◌, ◌++◌, map, length, get_or, sym, refl, ap, ◌∙◌, subst, ap₂, add-one, arith}
 use mathlib.Core.Bool.{or_comm}
 use Rattle.std.specs.List.{range_with_len}
 use Rattle.closure.specs.Closure.{marks}
 use Rattle.charts.specs.Search.{some_below}
-use Rattle.std.proofs.lemmas.Bool.{eq-eqb, ne_eqb, and_from, and_left, and_right, lt-ltb, le-ltb}
+use Rattle.std.proofs.lemmas.Bool.{eq-eqb, ne_eqb, and_from, lt-ltb}
 use Rattle.std.proofs.lemmas.List.FromFn.{length-map-range_with_len, get_or-map-range_with_len, map-range_with_len_more, fill_by_all}
 use Rattle.std.proofs.lemmas.Nat.{mul-add-lt, div-mul-add, mod-mul-add, div_below, mod_below}
 use Rattle.words.specs.Bits.{bit, word_of}
 use Rattle.words.proofs.Bits.{bit-packed, bit_of_packed, bit-pow, bit_none, packed_is, packed_none, packed_same}
 use Rattle.charts.specs.Meaning.{Meaning, has_move, chart_of}
 use Rattle.charts.proofs.Meanings.{count_is, word_inside, word_outside, moves_decides, same_moves}
-use Rattle.std.proofs.lemmas.Bool.Decides.{same_from_decides, Decides-like}
+use Rattle.std.proofs.lemmas.Bool.Decides.{same_from_decides, Decides-like, Decides-and, Decides-ltb}
 use Rattle.layers.specs.Sheet.{cell, cells, sheet, moves_in, silent_in, move_or_stay, sheet_chart}
 use Rattle.layers.proofs.Truth.{and_no_less, or_no_more}
 
@@ -39,23 +39,12 @@ pub column_below : (n i : ℕ) → i < n * n → i % n < n
 column_below n i h = mod_below i n (some_states n i h)
 
 -- a list made from a function of the index, and one element more
-pub counted_more : {X : Type 0} (f : ℕ → X) (i : ℕ) (xs : List X) (x : X) → xs ≡ map f (range_with_len 0 i) → x ≡ f i → xs ++ x ∷ [] ≡ map f (range_with_len 0 (i + 1))
-counted_more f i xs x before is = ap₂ (λ ys y. ys ++ y ∷ []) before is ∙ sym (map-range_with_len_more f 0 i i (omega arith))
+pub counted_more : {X : Type 0} (f : ℕ → X) (i : ℕ) (xs ys : List X) (x : X) → xs ≡ map f (range_with_len 0 i) → ys ≡ xs ++ x ∷ [] → x ≡ f i
+    → ys ≡ map f (range_with_len 0 (i + 1))
+counted_more f i xs ys x before more is =
+    more ∙ ap₂ (λ zs y. zs ++ y ∷ []) before is ∙ sym (map-range_with_len_more f 0 i i (omega arith))
 
 module _ (n : ℕ) (f : ℕ → ℕ → ℕ → Bool) where
-  pub cells_none : [] ≡ cells n f 0
-  unfolding cells
-  cells_none = refl
-
-  -- one word more
-  pub cells_more : (i : ℕ) (xs : List ℕ) (x : ℕ) → xs ≡ cells n f i → x ≡ word_of (λ a. f (i / n) a (i % n)) → xs ++ x ∷ [] ≡ cells n f (i + 1)
-  unfolding cells cell
-  cells_more = counted_more (cell n f)
-
-  -- every word
-  pub cells_all : (i : ℕ) (xs : List ℕ) → xs ≡ cells n f i → i ≤ n * n → n * n ≤ i → xs ≡ sheet n f
-  cells_all i xs before low high = before ∙ ap (cells n f) (let e : i ≡ n * n = omega arith in e)
-
   pub sheet_length : length (sheet n f) ≡ n * n
   unfolding cells
   sheet_length = length-map-range_with_len (cell n f) 0 (n * n)
@@ -71,11 +60,6 @@ module _ (n : ℕ) (f : ℕ → ℕ → ℕ → Bool) where
 pub silent_inside : (n : ℕ) (words : List ℕ) (p q : ℕ) → p < n → q < n → (r : Bool) → r ≡ moves_in n words p 0 q → r ≡ silent_in n words p q
 unfolding silent_in
 silent_inside n words p q hp hq r is = is ∙ sym (ap (λ b. b && moves_in n words p 0 q) (and_from (ltb p n) (ltb q n) (lt-ltb p n hp) (lt-ltb q n hq)))
-
-pub silent_outside : (n : ℕ) (words : List ℕ) (p q : ℕ) → (n ≤ p) ⊎ (n ≤ q) → false ≡ silent_in n words p q
-unfolding silent_in
-silent_outside n words p q (inl h) = sym (and_left (ltb p n && ltb q n) _ (and_left (ltb p n) (ltb q n) (le-ltb p n h)))
-silent_outside n words p q (inr h) = sym (and_left (ltb p n && ltb q n) _ (and_right (ltb p n) (ltb q n) (le-ltb q n h)))
 
 -- the word of a chart from p to q, and its silent label where p is q
 module _ (m : Meaning) (p q w : ℕ) (is : w ≡ m.word p q) where
@@ -110,10 +94,10 @@ module _ (test : ℕ → ℕ → Bool) where
       ∙ ap (λ k. some_below k (test a)) (sym (add-one r)))
 
 -- a mark read from the rows
-pub mark_read : (n : ℕ) (f : ℕ → ℕ → Bool) (rows : List (List Bool)) (p q : ℕ) (row : List Bool) → n ≤ 128 → p < n → q < n
-    → rows ≡ map (λ r. marks (f r)) (range_with_len 0 n) → row ≡ get_or rows p row → get_or row q false ≡ f p q
-mark_read n f rows p q row few hp hq rows_is row_is =
-    ap (λ r. get_or r q false) (row_is ∙ ap (λ rs. get_or rs p row) rows_is ∙ get_or-map-range_with_len (λ r. marks (f r)) 0 n p p row hp (omega arith))
+pub mark_read : (n : ℕ) (f : ℕ → ℕ → Bool) (rows : List (List Bool)) (p q : ℕ) → n ≤ 128 → p < n → q < n
+    → rows ≡ map (λ r. marks (f r)) (range_with_len 0 n) → get_or (get_or rows p []) q false ≡ f p q
+mark_read n f rows p q few hp hq rows_is =
+    ap (λ r. get_or r q false) (ap (λ rs. get_or rs p []) rows_is ∙ get_or-map-range_with_len (λ r. marks (f r)) 0 n p p [] hp (omega arith))
     ∙ get_or-map-range_with_len (f p) 0 128 q q false (omega arith) (omega arith)
 
 -- sheets with the same moves are the same
@@ -123,10 +107,6 @@ sheet_same n f g same =
     fill_by_all (cell n g) (sheet n f) (n * n) 0 (sheet_length n f)
     (λ k h. get_or-map-range_with_len (cell n f) 0 (n * n) k k 0 h (omega arith)
     ∙ packed_same 32 _ _ (λ a ha. same (k / n) a (k % n) (row_below n k h) (column_below n k h) ha))
-
--- a list that is a sheet is as long as one, whatever its moves
-pub sheet_long : (n k : ℕ) (f : ℕ → ℕ → ℕ → Bool) {words : List ℕ} → n ≡ k → words ≡ sheet k f → length words ≡ n * n
-sheet_long n k f n_is is = ap length is ∙ sheet_length k f ∙ ap (λ j. j * j) (sym n_is)
 
 -- the chart of a sheet is the chart of its moves
 pub sheet_chart_is : (n : ℕ) → n ≤ 128 → (f : ℕ → ℕ → ℕ → Bool) → sheet_chart n (sheet n f) ≡ chart_of n f
@@ -153,3 +133,33 @@ module _ (n : ℕ) (few : n ≤ 128) (words : List ℕ) where
   unfolding sheet_chart moves_in
   sheet_chart_inside p q w hp hq fits is =
       packed_is 32 w _ fits (λ a _. ap (λ v. bit v a) is) ∙ sym (word_inside n few (moves_in n words) p q hp hq)
+
+  -- label by label: what the sheet has, for states
+  pub sheet_chart_has : (p a q : ℕ) → p < n → q < n → a < 32 → has_move (sheet_chart n words) p a q ≡ moves_in n words p a q
+  unfolding sheet_chart
+  sheet_chart_has p a q hp hq ha =
+      ap (λ w. bit w a) (word_inside n few (moves_in n words) p q hp hq) ∙ bit-packed (λ b. moves_in n words p b q) 32 a ha
+
+  -- and its silent moves, from and to whatever numbers
+  pub silent_told : (p q : ℕ) → has_move (sheet_chart n words) p 0 q ≡ silent_in n words p q
+  unfolding sheet_chart silent_in
+  silent_told p q = same_from_decides _ _ (moves_decides n few (moves_in n words) p 0 q)
+      (Decides-like _
+      (λ h. (h.0.0, h.0.1, omega arith, h.1))
+      (λ h. ((h.0, h.1), h.3))
+      (Decides-and _ _ (Decides-and _ _ (Decides-ltb p n) (Decides-ltb q n)) (λ e. e, λ e. e)))
+
+-- a list of n × n words that are made of their places is a sheet
+pub sheet_told : (n : ℕ) (f : ℕ → ℕ → ℕ → Bool) (words : List ℕ) → length words ≡ n * n
+    → ((i : ℕ) → i < n * n → get_or words i 0 ≡ word_of (λ a. f (i / n) a (i % n))) → words ≡ sheet n f
+unfolding cells cell
+sheet_told n f words long told = fill_by_all (cell n f) words (n * n) 0 long told
+
+-- the labels of a move from p to r in one sheet, and from r to q in another
+pub word_by_way : (n : ℕ) → n ≤ 128 → (first second : List ℕ) (p r q v w : ℕ) → p < n → r < n → q < n
+    → v ≡ (sheet_chart n first).word p r → w ≡ (sheet_chart n second).word r q
+    → word_of (λ a. bit v a && bit w a) ≡ word_of (λ a. moves_in n first p a r && moves_in n second r a q)
+word_by_way n few first second p r q v w hp hr hq v_is w_is =
+    packed_same 32 _ _ (λ a ha. ap₂ ◌&&◌
+    (ap (λ x. bit x a) v_is ∙ sheet_chart_has n few first p a r hp hr ha)
+    (ap (λ x. bit x a) w_is ∙ sheet_chart_has n few second r a q hr hq ha))

@@ -1,3 +1,4 @@
 pub mod Hide
 pub mod Quiet
 pub mod Sheet
+pub mod Made

@@ -15,6 +15,7 @@ pub struct Hide<C> {
 
 impl<C: Chart> Hide<C> {
     // The layer over a chart.
+    #[tactic(auto, using(crate::proofs::Hiding::hide_count, crate::proofs::Hiding::silent_once_hidden, crate::proofs::Hiding::visible_once_hidden))]
     pub fn over(below: C, set: u32) -> Hide<C>
         ensures meaning { hide result.set (C.Chart.meaning result.below) ≡ hide set (C.Chart.meaning below) }
         ensures hide_keeps_the_states { HideKeepsTheStates }
@@ -28,6 +29,7 @@ impl<C: Chart> Hide<C> {
 impl<C: Chart> Chart for Hide<C> {
     ghost meaning = { λ h. hide h.set (C.Chart.meaning h.below) };
 
+    #[tactic(auto, using(crate::proofs::Hiding::hide_count))]
     fn count(&self) -> usize {
         self.below.count()
     }
