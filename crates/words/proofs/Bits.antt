@@ -3,7 +3,7 @@ use Rattle.std.proofs.Common.{◌≡◌, ℕ, zero, suc, ◌+◌, ◌-◌, ◌*�
 use native.Mathlib.Nat.{div-eq_of_lt}
 use lib.Bits.{bit_and, bit_or, and_step, or_step}
 use Rattle.std.proofs.lemmas.Bool.Decides.{nat_tests}
-use Rattle.words.specs.Bits.{bit, packed}
+use Rattle.words.specs.Bits.{bit, packed, word_of}
 
 -- the lowest bit, and the bits above it
 pub bit-zero : (w : ℕ) → bit w 0 ≡ eqb (w % 2) 1
@@ -123,3 +123,17 @@ bit-pow zero (suc a) = high_bit 1 1 0 refl (omega arith) a ∙ bit_none a ∙ gr
 bit-pow (suc b) zero = low_bit (2 ^ suc b) 0 (2 ^ b) (omega (arith, pow-suc 2 b)) (omega arith) ∙ grind (arith, nat_tests)
 bit-pow (suc b) (suc a) =
     high_bit (2 ^ suc b) 0 (2 ^ b) (omega (arith, pow-suc 2 b)) (omega arith) a ∙ bit-pow b a ∙ grind (arith, nat_tests)
+
+-- ---- words: the same at 32 bits
+
+pub word_has_its_labels : (f : ℕ → Bool) (a : ℕ) → a < 32 → bit (word_of f) a ≡ f a
+word_has_its_labels f a h = bit-packed f 32 a h
+
+pub word_fits : (f : ℕ → Bool) → word_of f < 2 ^ 32
+word_fits f = packed_lt f 32
+
+pub no_label_past_31 : (w a : ℕ) → w < 2 ^ 32 → 32 ≤ a → bit w a ≡ false
+no_label_past_31 = bit_past 32
+
+pub words_are_their_labels : (v w : ℕ) → v < 2 ^ 32 → w < 2 ^ 32 → ((a : ℕ) → a < 32 → bit v a ≡ bit w a) → v ≡ w
+words_are_their_labels = bits_same 32

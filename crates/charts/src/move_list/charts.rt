@@ -29,6 +29,7 @@ impl<'a> MoveList<'a> {
 impl Chart for ListChart<'_> {
     ghost meaning = { stands_for };
 
+    #[tactic(auto, using(crate::proofs::Meanings::count_is))]
     fn count(&self) -> usize {
         self.count
     }

@@ -31,6 +31,7 @@ impl MoveList<'_> {
 }
 
 // The move has a state not below the count, or a label over 31.
+#[tactic(auto, unfolding(crate::specs::MoveList::bad_move))]
 fn is_bad(m: &Move, count: usize) -> bool
     ensures value { result ≡ bad_move count m.now }
 {
