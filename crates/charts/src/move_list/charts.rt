@@ -10,6 +10,7 @@ use words::{singleton, union};
 
 impl<'a> MoveList<'a> {
     // The chart of the list: exactly the listed moves, or no states where the list is refused. The list is checked here, once.
+    #[tactic(auto, using(crate::proofs::Meanings::moves_decides))]
     pub fn chart(self) -> ListChart<'a>
         ensures meaning { stands_for result ≡ list_chart self.entry.count self.entry.moves.now }
         ensures moves_as_listed { MovesAsListed (stands_for result) self.entry.count self.entry.moves.now }

@@ -1,7 +1,4 @@
-use Rattle.std.proofs.Common.{ap, ◌∙◌}
-use Rattle.std.proofs.lemmas.List.{take_all}
-use Rattle.words.specs.Bits.{word_of}
-use Rattle.charts.specs.MoveList.{listed}
+use Rattle.std.proofs.Common.{◌∙◌}
 use Rattle.charts.proofs.Listed.{word_none, word_then, word_else}
 use Rattle.charts.proofs.move_list.charts.labels_between.Goals as goal
 use Rattle.charts.proofs.move_list.charts.labels_between.Goals.{then-m-p+then-m-q, else-m-p, else-m-p-via-then-m-p+else-m-q, else-m-p-via-else-m-p}
@@ -24,8 +21,3 @@ loop-m-preserved c =
             | else-m-p-via-else-m-p v ↦ v.if-m-p.false hp
           ])
     ]
-
-pub returns : goal.returns
-returns c = record {
-  value = c.loop-m.invariant ∙ ap (λ ms. word_of (λ a. listed ms c.args.p a c.args.q)) (take_all _ c.args.moves.now c.loop-m-test.false);
-}
