@@ -1,5 +1,5 @@
 // The refusals of this crate's calls. specs/Refusals.antt says which number and values each case stands for.
-ghost use Rattle.std.specs.Prelude.{◌≡◌};
+ghost use Rattle.std.specs.Prelude.{◌≡◌, ◌++◌, Some, codes, decimal};
 ghost use Rattle.charts.specs.Refusals.{told_by};
 
 use std::error::Error;
@@ -23,6 +23,8 @@ impl From<Refusal> for u8 {
 }
 
 impl fmt::Display for Refusal {
+    ghost output = { λ refusal. Some (codes "refused, number " ++ decimal (told_by refusal).number) };
+
     fn fmt<W: fmt::Write>(&self, f: &mut fmt::Formatter<W>) -> fmt::Result {
         write!(f, "refused, number {}", u8::from(*self))
     }
