@@ -13,21 +13,19 @@ loop-p-init g c =
       | else-start-n w ↦ walk_begins_nowhere _ few _ _ _ w.if-start-n.false w.seen-is
     ]
 
-pub loop-p-smaller : goal.loop-p-smaller
-loop-p-smaller g c = fewer_left c.loop-p.done c.in-Some.p (omega (arith, c.in-Some.ensures.cases.0)) c.in-Some.ensures.cases.2
-
 pub loop-p-preserved : goal.loop-p-preserved
 loop-p-preserved g c =
     let few : c.min-n.result ≤ 128 = omega arith in
     walk_goes_on _ few _ _ _ _ _ _ c.loop-p.invariant c.in-Some.ensures.cases.1 c.type_inv.seen c.mark_targets.ensures.marked
 
-pub returns : goal.returns
-returns g c =
+pub returns-clause-value : goal.returns-clause-value
+returns-clause-value g c =
     let few : c.min-n.result ≤ 128 = omega arith in
-    record {
-      value = walk_ends _ few _ _ _ _ c.loop-p.invariant c.in_default.ensures.cases
-          ∙ ap (λ n. marks (reaches n (g.S.Steps.step c.args.steps.now) c.args.start)) c.min-n.ensures;
-      marks_what_is_reached = subst (λ n. (q : ℕ) → Decides (get_or c.loop-p.seen q false) (Reached n (g.S.Steps.step c.args.steps.now) c.args.start q))
-          c.min-n.ensures (walk_decides _ few _ _ _ _ c.loop-p.invariant c.in_default.ensures.cases);
-      reaches_by_steps = reaches_decides;
-    }
+    walk_ends _ few _ _ _ _ c.loop-p.invariant c.in_default.ensures.cases
+    ∙ ap (λ n. marks (reaches n (g.S.Steps.step c.args.steps.now) c.args.start)) c.min-n.ensures
+
+pub returns-clause-marks_what_is_reached : goal.returns-clause-marks_what_is_reached
+returns-clause-marks_what_is_reached g c =
+    let few : c.min-n.result ≤ 128 = omega arith in
+    subst (λ n. (q : ℕ) → Decides (get_or c.loop-p.seen q false) (Reached n (g.S.Steps.step c.args.steps.now) c.args.start q))
+    c.min-n.ensures (walk_decides _ few _ _ _ _ c.loop-p.invariant c.in_default.ensures.cases)
