@@ -85,3 +85,9 @@ module _ (n : ℕ) (few : n ≤ 128) (step : ℕ → ℕ → Bool) (start : ℕ)
     pub walk_ends : seen ≡ marks (reaches n step start)
     walk_ends = fill_by_all (reaches n step start) seen 128 false walked.all_seen
         (λ q _. same_from_decides _ _ (walk_decides q) (reaches_decides n step start q))
+
+-- a state that becomes done was not done
+pub fewer_left : (done : List Bool) (p : ℕ) → p < length done → get_or done p false ≡ false → count_by not (set done p true) < count_by not done
+fewer_left done p within left =
+    let one : Bool → ℕ = λ b. cond (not b) 1 0 in
+    omega (arith, sum_by-set one done p true false within, ap one left)

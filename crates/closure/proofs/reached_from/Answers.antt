@@ -1,7 +1,6 @@
 use Rattle.std.proofs.Common.{ℕ, ◌≤◌, false, get_or, Decides, ap, ◌∙◌, subst, arith}
 use Rattle.closure.specs.Closure.{Reached, reaches, marks}
-use Rattle.closure.proofs.Walk.{walk_begins, walk_begins_nowhere, walk_goes_on, walk_decides, walk_ends, fewer_left}
-use Rattle.closure.proofs.Paths.{reaches_decides}
+use Rattle.closure.proofs.Walk.{walk_begins, walk_begins_nowhere, walk_goes_on, walk_decides, walk_ends}
 use Rattle.closure.proofs.reached_from.Goals as goal
 use Rattle.closure.proofs.reached_from.Goals.{then-start-n, else-start-n}
 
