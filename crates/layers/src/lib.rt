@@ -1,12 +1,12 @@
 // Layers: charts made of a chart.
 //   hide   labels of a set made silent
 //   quiet  silent moves taken together
-//   sheet  the moves of a chart kept as a sheet of words, for the making of a quiet chart
+//   sheet  the chart of a lent sheet of words, and the sheets that a quiet chart is made of
 #![tactic(auto)]
 
 pub mod hide;
 pub mod quiet;
-mod sheet;
+pub mod sheet;
 
 // The word of the silent label alone.
 const SILENT: u32 = 1;
