@@ -2,7 +2,7 @@
 // What is reached is said in specs/Closure.antt, by paths and by a test.
 #![tactic(auto)]
 
-ghost use Rattle.std.specs.Prelude.{◌≡◌, ℕ, ◌<◌, ◌≤◌, min, Bool, true, false, ◌&&◌, ◌||◌, Decides, MatchOption, nat_lt, slice_index_or};
+ghost use Rattle.std.specs.Prelude.{◌≡◌, ℕ, ◌<◌, ◌≤◌, min, Bool, true, false, ◌&&◌, ◌||◌, ◌↔◌, IsTrue, MatchOption, nat_lt, slice_index_or};
 ghost use Rattle.closure.specs.Closure.{Reached, reaches, marks, ReachesBySteps};
 
 // Only states below this number are walked.
@@ -24,7 +24,7 @@ pub trait Steps {
 #[tactic(auto, using(crate::proofs::Paths::reaches_decides, crate::proofs::Walk::fewer_left))]
 pub fn reached_from<S: Steps>(steps: &S, count: usize, start: usize) -> Marks
     ensures value { result ≡ marks (reaches (min count 128) (S.step steps.now) start) }
-    ensures marks_what_is_reached { (q : ℕ) → Decides (slice_index_or result q false) (Reached (min count 128) (S.step steps.now) start q) }
+    ensures marks_what_is_reached { (q : ℕ) → (IsTrue (slice_index_or result q false) ↔ Reached (min count 128) (S.step steps.now) start q) }
     ensures reaches_by_steps { ReachesBySteps }
 {
     let n = count.min(STATES);

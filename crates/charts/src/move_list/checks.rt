@@ -1,5 +1,5 @@
 // The check of a move list.
-ghost use Rattle.std.specs.Prelude.{◌≡◌, is_err, Decides};
+ghost use Rattle.std.specs.Prelude.{◌≡◌, ◌↔◌, IsErr};
 ghost use Rattle.std.specs.List.{list_any};
 ghost use Rattle.charts.specs.Refusals.{told_by, refusal_told};
 ghost use Rattle.charts.specs.MoveList.{bad_move, repeats, list_refusal, Fault};
@@ -18,7 +18,7 @@ impl MoveList<'_> {
     // Refuses the list where it has over 128 states, a state not below its count, a label over 31 or a repeated move.
     pub fn check(&self) -> Result<(), Refusal>
         ensures answer { refusal_told told_by result ≡ list_refusal self.now.count self.now.moves.now }
-        ensures refused_exactly_for_a_fault { Decides (is_err result) (Fault self.now.count self.now.moves.now) }
+        ensures refused_exactly_for_a_fault { IsErr result ↔ Fault self.now.count self.now.moves.now }
     {
         if self.count > MOST_STATES
             || has_bad_move(self.moves, self.count)
