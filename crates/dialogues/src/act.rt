@@ -10,12 +10,12 @@ use std::fmt;
 // What is done in a move; tau is silent.
 #[derive(Clone, Copy, PartialEq, Eq, Hash, Debug)]
 pub enum Act {
-    Tau,
-    Scan,
-    Chill,
-    Shelf,
-    Check,
-    Key,
+    Tau = 0,
+    Scan = 1,
+    Chill = 2,
+    Shelf = 3,
+    Check = 4,
+    Key = 5,
 }
 
 // A label that stands for no act.
@@ -27,14 +27,7 @@ impl From<Act> for u8 {
     ghost from_gives = { λ act label. label ≡ label_of act };
 
     fn from(act: Act) -> u8 {
-        match act {
-            Act::Tau => 0,
-            Act::Scan => 1,
-            Act::Chill => 2,
-            Act::Shelf => 3,
-            Act::Check => 4,
-            Act::Key => 5,
-        }
+        act as u8
     }
 }
 
