@@ -14,9 +14,10 @@ use std::rt::Clock;
 use std::time::Instant;
 use words::contains;
 
-// The label of silent moves, and one of visible moves.
+// The label of silent moves.
 const SILENT: u8 = 0;
 
+// A label of visible moves.
 const VISIBLE: u8 = 1;
 
 // A ring of n states: each moves silently to the next, and the last one visibly to the first.

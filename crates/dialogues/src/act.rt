@@ -1,7 +1,7 @@
-// The acts of the station's dialogues. specs/Act.antt says which label each one stands for.
-ghost use Rattle.std.specs.Prelude.{◌≡◌};
+// The acts of the station's dialogues. specs/Act.antt says which label stands for each one, and its name.
+ghost use Rattle.std.specs.Prelude.{◌≡◌, ◌++◌, Some, codes, decimal};
 ghost use Rattle.charts.specs.MoveList.{move};
-ghost use Rattle.dialogues.specs.Act.{label_of, IsActOf};
+ghost use Rattle.dialogues.specs.Act.{label_of, name_of, IsActOf};
 
 use charts::move_list::Move;
 use std::error::Error;
@@ -51,6 +51,8 @@ impl TryFrom<u8> for Act {
 }
 
 impl fmt::Display for Act {
+    ghost output = { λ act. Some (name_of act) };
+
     fn fmt<W: fmt::Write>(&self, f: &mut fmt::Formatter<W>) -> fmt::Result {
         f.write_str(match self {
             Act::Tau => "tau",
@@ -64,6 +66,8 @@ impl fmt::Display for Act {
 }
 
 impl fmt::Display for UnknownLabel {
+    ghost output = { λ unknown. Some (codes "label " ++ (decimal unknown.0 ++ codes " stands for no act")) };
+
     fn fmt<W: fmt::Write>(&self, f: &mut fmt::Formatter<W>) -> fmt::Result {
         write!(f, "label {} stands for no act", self.0)
     }

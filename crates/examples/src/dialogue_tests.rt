@@ -3,7 +3,7 @@ use crate::telling::to;
 use charts::move_list::MoveList;
 use dialogues::act::{Act, UnknownLabel, step};
 use dialogues::chain::chain;
-use dialogues::tell::Checked;
+use dialogues::checked::Checked;
 use std::test::Fail;
 
 #[test]

@@ -6,9 +6,8 @@
 mod lists;
 
 use charts::move_list::MoveList;
-use dialogues::act::Act;
 use dialogues::chain::chain;
-use dialogues::tell::Checked;
+use dialogues::checked::Checked;
 use likeness::rounds::settle;
 use lists::both_versions;
 use std::alloc::Global;
@@ -20,7 +19,10 @@ use std::time::Instant;
 const ROUNDS: usize = 128;
 
 // A sheet of so many places suffices for every chart.
-const PLACES: usize = 16384;
+const PLACES: usize = 128 * 128;
+
+// A label of visible moves.
+const VISIBLE: u8 = 1;
 
 // Prints what settling two states of a list's chart answers.
 fn tell_settled(
@@ -31,6 +33,7 @@ fn tell_settled(
     moves: &mut [u32],
     levels: &mut [u8],
 ) -> io::Result<()> {
+    // No type for the verdict: the new form is no plainer, because here and in the trials other text stands round the two words.
     match settle(&list.chart(), p, q, ROUNDS, moves, levels) {
         Ok((0, rounds)) => {
             println!(rt; "  States {p} and {q} are like: depth 0, rounds {rounds}.")
@@ -44,7 +47,7 @@ fn tell_settled(
 
 // Settles the first state of a chain of visible moves with itself, which takes the most rounds.
 fn run_rounds(rt: &(impl Print + Eprint + Clock), alloc: Global, n: usize) -> io::Result<()> {
-    let steps = chain(alloc, n, u8::from(Act::Scan))?;
+    let steps = chain(alloc, n, VISIBLE)?;
     let list = MoveList {
         count: n,
         moves: &steps,

@@ -2,7 +2,7 @@
 use charts::chart::Chart;
 use charts::move_list::MoveList;
 use dialogues::act::Act;
-use dialogues::tell::Checked;
+use dialogues::checked::Checked;
 use layers::hide::Hide;
 use layers::quiet::Quiet;
 use std::alloc::Global;

@@ -11,7 +11,7 @@ use std::alloc::{AllocError, Global};
 use std::io::{BufRead, BufReader};
 
 // A sheet of so many places suffices for every chart.
-const PLACES: usize = 16384;
+const PLACES: usize = 128 * 128;
 
 // The sheets that a trial is settled on.
 #[derive(Drop)]
@@ -61,6 +61,7 @@ fn answer<C: Chart>(
     limit: usize,
     sheets: &mut Sheets,
 ) -> Result<String, AllocError> {
+    // No type for the verdict: the new form is no plainer, because here and in settling other text stands round the two words.
     match settle(chart, p, q, limit, &mut sheets.moves, &mut sheets.levels) {
         Ok((0, rounds)) => format!(in alloc; "like {rounds}"),
         Ok((depth, rounds)) => format!(in alloc; "unlike {depth} {rounds}"),

@@ -1,4 +1,4 @@
-// What is told of a list.
+// What is told of a list and its check.
 use charts::move_list::MoveList;
 use std::fmt;
 
