@@ -21,6 +21,7 @@ struct Sheets {
 }
 
 impl Sheets {
+    // Sheets of zeros.
     fn new(alloc: Global) -> Result<Sheets, AllocError> {
         Ok(Sheets {
             moves: vec![in alloc; 0u32; PLACES]?,
@@ -42,7 +43,7 @@ fn told_move(from: usize, label: usize, to: usize) -> anyhow::Result<Move> {
     Ok(Move { from, label, to })
 }
 
-// The moves that are told by three numbers each.
+// The moves that are told by three numbers each; numbers left over tell none.
 fn moves_of(alloc: Global, told: &[usize]) -> anyhow::Result<Vec<Move>> {
     told.chunks(3)
         .filter_map(|part| match part {
