@@ -4,6 +4,8 @@
 #[cfg(test)]
 mod closure_tests;
 #[cfg(test)]
+mod dialogue_tests;
+#[cfg(test)]
 mod layer_tests;
 #[cfg(test)]
 mod likeness_tests;

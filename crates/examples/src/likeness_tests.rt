@@ -6,6 +6,7 @@ use layers::quiet::Quiet;
 use likeness::moves::fill_moves;
 use likeness::refusal::Refusal;
 use likeness::rounds::settle;
+use std::alloc::Global;
 use std::test::Fail;
 
 // Settles two states of a chart, on sheets of their own.
@@ -16,8 +17,8 @@ fn settled<C: Chart>(chart: &C, p: usize, q: usize, limit: usize) -> Result<(u8,
 }
 
 // The same in the quiet chart, without the rounds.
-fn weak_depth<C: Chart>(rt: &HostRuntime, chart: &C, p: usize, q: usize) -> Result<u8, Fail> {
-    let quiet = Quiet::over(rt.alloc(), chart)?;
+fn weak_depth<C: Chart>(alloc: Global, chart: &C, p: usize, q: usize) -> Result<u8, Fail> {
+    let quiet = Quiet::over(alloc, chart)?;
     let (depth, _) = settled(&quiet, p, q, 128)?;
     Ok(depth)
 }
@@ -152,7 +153,7 @@ fn a_silent_step_between_is_weakly_like(rt: HostRuntime) -> Result<(), Fail> {
         moves: &moves,
     };
     assert_eq!(rt; settled(&list.chart(), 0, 4, 128), Ok((2, 2)));
-    assert_eq!(rt; weak_depth(&rt, &list.chart(), 0, 4)?, 0);
+    assert_eq!(rt; weak_depth(rt.alloc(), &list.chart(), 0, 4)?, 0);
     Ok(())
 }
 
@@ -170,7 +171,7 @@ fn a_silent_step_that_takes_a_choice_away_is_weakly_unlike(rt: HostRuntime) -> R
         count: 4,
         moves: &moves,
     };
-    assert_eq!(rt; weak_depth(&rt, &list.chart(), 0, 2)?, 2);
+    assert_eq!(rt; weak_depth(rt.alloc(), &list.chart(), 0, 2)?, 2);
     Ok(())
 }
 
@@ -183,6 +184,6 @@ fn a_silent_loop_is_weakly_like_a_stop(rt: HostRuntime) -> Result<(), Fail> {
         moves: &moves,
     };
     assert_eq!(rt; settled(&list.chart(), 0, 1, 128), Ok((1, 1)));
-    assert_eq!(rt; weak_depth(&rt, &list.chart(), 0, 1)?, 0);
+    assert_eq!(rt; weak_depth(rt.alloc(), &list.chart(), 0, 1)?, 0);
     Ok(())
 }

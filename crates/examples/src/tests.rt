@@ -1,37 +1,25 @@
 // Examples at the edges of what is allowed.
+use crate::telling::to;
 use charts::chart::Chart;
 use charts::move_list::{Move, MoveList};
 use charts::refusal::Refusal;
 use charts::same::first_same;
 
-const EDGES: [Move; 4] = [
-    Move {
-        from: 0,
-        label: 0,
-        to: 127,
-    },
-    Move {
-        from: 127,
-        label: 31,
-        to: 0,
-    },
-    Move {
-        from: 127,
-        label: 4,
-        to: 0,
-    },
-    Move {
-        from: 127,
-        label: 4,
-        to: 127,
-    },
-];
+// Moves between the least and the greatest of the states, by the least, some and the greatest of the labels.
+fn edges() -> [Move; 4] {
+    [
+        to(0, 0, 127),
+        to(127, 31, 0),
+        to(127, 4, 0),
+        to(127, 4, 127),
+    ]
+}
 
 #[test]
 fn the_largest_list_is_accepted(rt: HostRuntime) {
     let list = MoveList {
         count: 128,
-        moves: &EDGES,
+        moves: &edges(),
     };
     assert_eq!(rt; list.check(), Ok(()));
     let chart = list.chart();
@@ -46,11 +34,11 @@ fn the_largest_list_is_accepted(rt: HostRuntime) {
 // The check of a list with one move.
 fn check_one(count: usize, from: usize, label: u8, to: usize) -> Result<(), Refusal> {
     let moves = [Move { from, label, to }];
-    MoveList {
+    let list = MoveList {
         count,
         moves: &moves,
-    }
-    .check()
+    };
+    list.check()
 }
 
 #[test]
@@ -66,7 +54,8 @@ fn each_fault_is_refused(rt: HostRuntime) {
 
 #[test]
 fn a_repeat_is_refused_and_its_chart_is_empty(rt: HostRuntime) {
-    let twice = [EDGES[1], EDGES[0], EDGES[1]];
+    let [a, b, ..] = edges();
+    let twice = [b, a, b];
     let list = MoveList {
         count: 128,
         moves: &twice,
@@ -79,9 +68,10 @@ fn a_repeat_is_refused_and_its_chart_is_empty(rt: HostRuntime) {
 
 #[test]
 fn the_first_equal_record_is_found(rt: HostRuntime) {
-    let twice = [EDGES[1], EDGES[0], EDGES[1], EDGES[0]];
-    assert_eq!(rt; first_same(&twice, &EDGES[0]), Some(1));
-    assert_eq!(rt; first_same(&twice, &EDGES[2]), None);
+    let [a, b, c, _] = edges();
+    let twice = [b, a, b, a];
+    assert_eq!(rt; first_same(&twice, &a), Some(1));
+    assert_eq!(rt; first_same(&twice, &c), None);
 }
 
 // The count of any chart.

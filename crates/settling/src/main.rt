@@ -3,102 +3,84 @@
 // Standard output has what was found, and is compared; standard error has the times.
 #![tactic(auto)]
 
-mod dialogues;
+mod lists;
 
-use charts::move_list::{Move, MoveList};
-use dialogues::BOTH_VERSIONS;
+use charts::move_list::MoveList;
+use dialogues::chain::chain;
+use dialogues::checked::Checked;
 use likeness::rounds::settle;
-use std::alloc::{AllocError, Global};
+use lists::both_versions;
+use std::alloc::Global;
 use std::io;
+use std::rt::Clock;
 use std::time::Instant;
 
 // A limit of rounds that suffices for every chart.
 const ROUNDS: usize = 128;
 
-// Prints what becomes of a list when it is checked.
-fn tell_checked(rt: &HostRuntime, title: &str, list: MoveList) -> io::Result<()> {
-    let count = list.count;
-    let listed = list.moves.len();
-    println!(rt; "{title}: a list of {count} states and {listed} moves.")?;
-    match list.check() {
-        Ok(()) => println!(rt; "  The list is accepted."),
-        Err(refusal) => {
-            let number = refusal.number();
-            println!(rt; "  The list is refused, number {number}.")
-        }
-    }
-}
+// A sheet of so many places suffices for every chart.
+const PLACES: usize = 128 * 128;
+
+// A label of visible moves.
+const VISIBLE: u8 = 1;
 
 // Prints what settling two states of a list's chart answers.
 fn tell_settled(
-    rt: &HostRuntime,
+    rt: &impl Print,
     list: MoveList,
     p: usize,
     q: usize,
     moves: &mut [u32],
     levels: &mut [u8],
 ) -> io::Result<()> {
+    // No type for the verdict: the new form is no plainer, because here and in the trials other text stands round the two words.
     match settle(&list.chart(), p, q, ROUNDS, moves, levels) {
+        Ok((0, rounds)) => {
+            println!(rt; "  States {p} and {q} are like: depth 0, rounds {rounds}.")
+        }
         Ok((depth, rounds)) => {
-            let verdict = if depth == 0 { "like" } else { "unlike" };
-            println!(rt; "  States {p} and {q} are {verdict}: depth {depth}, rounds {rounds}.")
+            println!(rt; "  States {p} and {q} are unlike: depth {depth}, rounds {rounds}.")
         }
-        Err(refusal) => {
-            let number = refusal.number();
-            println!(rt; "  States {p} and {q} are refused, number {number}.")
-        }
+        Err(refusal) => println!(rt; "  States {p} and {q} are {refusal}."),
     }
-}
-
-// A chain of n states: each moves by the label to the next.
-fn chain(heap: Global, n: usize, label: u8) -> Result<Vec<Move>, AllocError> {
-    let mut moves = Vec::new(heap);
-    for i in 1..n {
-        moves.push(Move {
-            from: i - 1,
-            label,
-            to: i,
-        })?;
-    }
-    Ok(moves)
 }
 
 // Settles the first state of a chain of visible moves with itself, which takes the most rounds.
-fn run_rounds(rt: &HostRuntime, n: usize) -> io::Result<()> {
-    let steps = chain(rt.alloc(), n, 1)?;
+fn run_rounds(rt: &(impl Print + Eprint + Clock), alloc: Global, n: usize) -> io::Result<()> {
+    let steps = chain(alloc, n, VISIBLE)?;
     let list = MoveList {
         count: n,
         moves: &steps,
     };
     let chart = list.chart();
-    let mut moves = vec![in rt.alloc(); 0u32; 16384]?;
-    let mut levels = vec![in rt.alloc(); 0u8; 16384]?;
+    let mut moves = vec![in alloc; 0u32; PLACES]?;
+    let mut levels = vec![in alloc; 0u8; PLACES]?;
     let start = Instant::now(rt)?;
-    let answer = settle(&chart, 0, 0, 128, &mut moves, &mut levels);
+    let answer = settle(&chart, 0, 0, ROUNDS, &mut moves, &mut levels);
     let settled = start.elapsed(rt)?.as_micros();
     match answer {
         Ok((depth, rounds)) => println!(rt; "count {n}: depth {depth} after {rounds} rounds")?,
-        Err(refusal) => {
-            let number = refusal.number();
-            println!(rt; "count {n}: refused, number {number}")?
-        }
+        Err(refusal) => println!(rt; "count {n}: {refusal}")?,
     }
     eprintln!(rt; "count {n}: settled after {settled} microseconds")
 }
 
 fn main(rt: HostRuntime) -> io::Result<()> {
-    let both = MoveList {
+    let list = MoveList {
         count: 9,
-        moves: &BOTH_VERSIONS,
+        moves: &both_versions(),
     };
-    tell_checked(&rt, "Both versions", both)?;
+    rt.println(Checked {
+        title: "Both versions",
+        list,
+    })?;
     let mut moves = [0u32; 81];
     let mut levels = [0u8; 81];
-    tell_settled(&rt, both, 0, 4, &mut moves, &mut levels)?;
-    tell_settled(&rt, both, 2, 7, &mut moves, &mut levels)?;
+    tell_settled(&rt, list, 0, 4, &mut moves, &mut levels)?;
+    tell_settled(&rt, list, 2, 7, &mut moves, &mut levels)?;
     println!(rt; "Chains of visible moves:")?;
     for n in [1usize, 2, 16, 127, 128] {
-        run_rounds(&rt, n)?;
+        run_rounds(&rt, rt.alloc(), n)?;
     }
     Ok(())
 }

@@ -2,34 +2,36 @@
 // In the first version the volunteer picks chill or shelf after the scan; in the second the handheld has picked already.
 #![tactic(auto)]
 
-mod dialogues;
+mod lists;
 mod telling;
 
 use charts::move_list::MoveList;
-use dialogues::{CHECK, HANDHELD_CHECKS, HANDHELD_PICKS, SLIP, VOLUNTEER_PICKS};
+use dialogues::act::Act;
+use lists::{handheld_checks, handheld_picks, volunteer_picks};
 use std::io;
 use telling::{tell, tell_layers};
 
 fn main(rt: HostRuntime) -> io::Result<()> {
     let volunteer = MoveList {
         count: 4,
-        moves: &VOLUNTEER_PICKS,
+        moves: &volunteer_picks(),
     };
     tell(&rt, "The volunteer picks", volunteer)?;
     let handheld = MoveList {
         count: 5,
-        moves: &HANDHELD_PICKS,
+        moves: &handheld_picks(),
     };
     tell(&rt, "The handheld picks", handheld)?;
+    // The volunteer's moves among one state too few.
     let slip = MoveList {
         count: 3,
-        moves: &SLIP,
+        ..volunteer
     };
     tell(&rt, "A slip", slip)?;
     let checks = MoveList {
         count: 4,
-        moves: &HANDHELD_CHECKS,
+        moves: &handheld_checks(),
     };
     tell(&rt, "The handheld checks", checks)?;
-    tell_layers(&rt, checks, CHECK)
+    tell_layers(&rt, rt.alloc(), checks, Act::Check)
 }

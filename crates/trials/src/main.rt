@@ -10,6 +10,9 @@ use likeness::rounds::settle;
 use std::alloc::{AllocError, Global};
 use std::io::{BufRead, BufReader};
 
+// A sheet of so many places suffices for every chart.
+const PLACES: usize = 128 * 128;
+
 // The sheets that a trial is settled on.
 #[derive(Drop)]
 struct Sheets {
@@ -17,76 +20,80 @@ struct Sheets {
     levels: Vec<u8>,
 }
 
-// The numbers of a line.
-fn numbers(heap: Global, line: &str) -> anyhow::Result<Vec<usize>> {
-    let mut found = Vec::new(heap);
-    for word in line.split_whitespace() {
-        found.push(word.parse::<usize>()?)?;
+impl Sheets {
+    // Sheets of zeros.
+    fn new(alloc: Global) -> Result<Sheets, AllocError> {
+        Ok(Sheets {
+            moves: vec![in alloc; 0u32; PLACES]?,
+            levels: vec![in alloc; 0u8; PLACES]?,
+        })
     }
-    Ok(found)
 }
 
-// The moves that are told by three numbers each.
-fn moves_of(heap: Global, told: &[usize]) -> anyhow::Result<Vec<Move>> {
-    let mut moves = Vec::new(heap);
-    for part in told.chunks(3) {
-        if let [from, label, to] = part {
-            moves.push(Move {
-                from: *from,
-                label: u8::try_from(*label)?,
-                to: *to,
-            })?;
-        }
-    }
-    Ok(moves)
+// The numbers of a line.
+fn numbers(alloc: Global, line: &str) -> anyhow::Result<Vec<usize>> {
+    line.split_whitespace()
+        .map(|word| word.parse::<usize>().map_err(anyhow::Error::from))
+        .try_collect(alloc)
+}
+
+// The move that is told by three numbers.
+fn told_move(from: usize, label: usize, to: usize) -> anyhow::Result<Move> {
+    let label = u8::try_from(label)?;
+    Ok(Move { from, label, to })
+}
+
+// The moves that are told by three numbers each; numbers left over tell none.
+fn moves_of(alloc: Global, told: &[usize]) -> anyhow::Result<Vec<Move>> {
+    told.chunks(3)
+        .filter_map(|part| match part {
+            &[from, label, to] => Some(told_move(from, label, to)),
+            _ => None,
+        })
+        .try_collect(alloc)
 }
 
 // What settling answers, as it is printed.
 fn answer<C: Chart>(
-    heap: Global,
+    alloc: Global,
     chart: &C,
     p: usize,
     q: usize,
     limit: usize,
     sheets: &mut Sheets,
 ) -> Result<String, AllocError> {
+    // No type for the verdict: the new form is no plainer, because here and in settling other text stands round the two words.
     match settle(chart, p, q, limit, &mut sheets.moves, &mut sheets.levels) {
-        Ok((0, rounds)) => format!(in heap; "like {rounds}"),
-        Ok((depth, rounds)) => format!(in heap; "unlike {depth} {rounds}"),
-        Err(refusal) => {
-            let number = refusal.number();
-            format!(in heap; "refused {number}")
-        }
+        Ok((0, rounds)) => format!(in alloc; "like {rounds}"),
+        Ok((depth, rounds)) => format!(in alloc; "unlike {depth} {rounds}"),
+        Err(refusal) => format!(in alloc; "refused {}", u8::from(refusal)),
     }
 }
 
 // Runs the trial that a line tells; a line of fewer than four numbers tells none.
-fn run(rt: &HostRuntime, line: &str, sheets: &mut Sheets) -> anyhow::Result<()> {
-    let heap = rt.alloc();
-    let told = numbers(heap, line)?;
-    if let [count, p, q, limit, rest @ ..] = told.as_slice() {
-        let moves = moves_of(heap, rest)?;
-        let list = MoveList {
-            count: *count,
-            moves: &moves,
-        };
-        let chart = list.chart();
-        let strong = answer(heap, &chart, *p, *q, *limit, sheets)?;
-        let quiet = Quiet::over(heap, &chart)?;
-        let weak = answer(heap, &quiet, *p, *q, *limit, sheets)?;
-        println!(rt; "{strong}, weakly {weak}")?;
-    }
+fn run(rt: &impl Print, alloc: Global, line: &str, sheets: &mut Sheets) -> anyhow::Result<()> {
+    let told = numbers(alloc, line)?;
+    let &[count, p, q, limit, ref rest @ ..] = told.as_slice() else {
+        return Ok(());
+    };
+    let moves = moves_of(alloc, rest)?;
+    let list = MoveList {
+        count,
+        moves: &moves,
+    };
+    let chart = list.chart();
+    let strong = answer(alloc, &chart, p, q, limit, sheets)?;
+    let quiet = Quiet::over(alloc, &chart)?;
+    let weak = answer(alloc, &quiet, p, q, limit, sheets)?;
+    println!(rt; "{strong}, weakly {weak}")?;
     Ok(())
 }
 
 fn main(rt: HostRuntime) -> anyhow::Result<()> {
-    let heap = rt.alloc();
-    let mut sheets = Sheets {
-        moves: vec![in heap; 0u32; 16384]?,
-        levels: vec![in heap; 0u8; 16384]?,
-    };
-    for line in BufReader::new(heap, rt.stdin())?.lines(heap) {
-        run(&rt, line?.as_str(), &mut sheets)?;
+    let alloc = rt.alloc();
+    let mut sheets = Sheets::new(alloc)?;
+    for line in BufReader::new(alloc, rt.stdin())?.lines(alloc) {
+        run(&rt, alloc, line?.as_str(), &mut sheets)?;
     }
     Ok(())
 }
