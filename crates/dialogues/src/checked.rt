@@ -20,10 +20,9 @@ impl fmt::Display for Checked<'_> {
         let count = self.list.count;
         let listed = self.list.moves.len();
         writeln!(f, "{title}: a list of {count} states and {listed} moves.")?;
-        // Tried {refusal}, and the proof did not close: no clause states its text.
         match self.list.check() {
             Ok(()) => write!(f, "  The list is accepted."),
-            Err(refusal) => write!(f, "  The list is refused, number {}.", u8::from(refusal)),
+            Err(refusal) => write!(f, "  The list is {refusal}."),
         }
     }
 }

@@ -1,4 +1,4 @@
-use Rattle.std.proofs.Common.{◌≡◌, ◌++◌, false, refl, sym, ap, ◌∙◌}
+use Rattle.std.proofs.Common.{◌++◌, false, refl, sym, ap, ◌∙◌}
 use Rattle.std.specs.Prelude.{codes, decimal}
 use Rattle.std.proofs.Output.{has_written_of_eq, has_written_append}
 use Rattle.std.proofs.lemmas.Bool.Decides.{same_from_decides}
@@ -23,8 +23,7 @@ returns-in-Err-clause-writes g c p k =
     let told = c.args.self.now in
     let size = c.in_ok-writeln.ensures.writes p refl in
     let refused = cond_some (faulty told.list.count told.list.moves.now) (bare 20) (told_by c.in-Err.refusal) (sym c.in-Err.ensures.answer) in
-    let number : c.from.result ≡ 20 = c.from.ensures ∙ ap (λ (t : Told). t.number) (sym refused.1) in
     has_written_of_eq _ _ _ _ _
-    (ap (λ n. size_text told ++ (codes "  The list is refused, number " ++ (decimal n ++ codes "."))) number
+    (ap (λ (t : Told). size_text told ++ (codes "  The list is refused, number " ++ (decimal t.number ++ codes "."))) (sym refused.1)
     ∙ ap (λ faulty. size_text told ++ verdict_text faulty) (sym refused.0))
     (has_written_append _ _ _ _ _ _ size (c.write-in-Err.ensures.writes size.plain k))
