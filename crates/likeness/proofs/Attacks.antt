@@ -1,6 +1,6 @@
 -- Levels up to a number, the attacks behind them, and the formulas that these give. Assumes nothing.
 use Rattle.std.proofs.Common.{◌≡◌, ℕ, zero, suc, ◌<◌, ◌≤◌, Bool, true, false, not, ◌&&◌, Decides, sym, refl, ap, ◌∙◌, subst, inl, inr, ⊎_elim, arith}
-use Rattle.std.proofs.lemmas.Bool.{both_ways, cases_Bool, cases_lt, and_from, and_left, and_right, not-true, not-false, not_from_true, not_from_false, cond-true, cond-false, le-leb, lt-leb}
+use Rattle.std.proofs.lemmas.Bool.{false_from_ne_true, both_ways, cases_Bool, cases_lt, and_from, and_left, and_right, not-true, not-false, not_from_true, not_from_false, cond-true, cond-false, le-leb, lt-leb}
 use Rattle.std.proofs.lemmas.Bool.Decides.{Decides-like, same_from_decides}
 use Rattle.closure.proofs.Paths.{last_or_below}
 use Rattle.charts.specs.Meaning.{Meaning, has_move}
@@ -10,7 +10,7 @@ use Rattle.likeness.specs.Bisimulation.{Answered}
 use Rattle.likeness.specs.Levels.{Even, unanswered, even, level, level_to}
 use Rattle.likeness.specs.Formula.{Formula, truth, negation, conjunction, after, depth, holds, Distinguished}
 use Rattle.likeness.specs.Attack.{Lower, AttackBy, Attack, Attacked}
-use Rattle.likeness.proofs.Evenness.{false_unless, even_decides, unanswered_found, even_symmetric, even_shrinks}
+use Rattle.likeness.proofs.Evenness.{even_decides, unanswered_found, even_symmetric, even_shrinks}
 use Rattle.likeness.proofs.Closing.{level_told}
 
 module _ (m : Meaning) where
@@ -63,7 +63,7 @@ module _ (m : Meaning) where
 
   -- an attack of one side is a move that is not answered
   module _ (G R : ℕ → ℕ → Type 0) (p q : ℕ) where
-    attack_unanswered : ((t u : ℕ) → t < m.count → u < m.count → G t u → R t u → ⊥) → AttackBy m G p q → Answered m m R p q → ⊥
+    pub attack_unanswered : ((t u : ℕ) → t < m.count → u < m.count → G t u → R t u → ⊥) → AttackBy m G p q → Answered m m R p q → ⊥
     attack_unanswered apart attack answered =
         let answer = answered attack.0 attack.1 attack.2 in
         apart attack.1 answer.0 (move_inside m p attack.0 attack.1 attack.2).1 (move_inside m q attack.0 answer.0 answer.1).1
@@ -197,7 +197,7 @@ module _ (m : Meaning) where
         let l = F.1 in (
           after a F.0,
           omega arith,
-          (after_decides a p F.0).1 (t, move, F.2) ∙ sym (not_from_false _ (false_unless (holds m (after a F.0) q)
+          (after_decides a p F.0).1 (t, move, F.2) ∙ sym (not_from_false _ (false_from_ne_true (holds m (after a F.0) q)
               (λ some. let found = (after_decides a q F.0).0 some in
               both_ways _ (F.3 found.0 (move_inside m q a found.0 found.1).1 found.1) found.2))),
         )

@@ -2,7 +2,7 @@
 -- state is even with it to depth k. Each depth at which some pair gets a level has one more leader than the depth before it.
 -- Assumes nothing.
 use Rattle.std.proofs.Common.{◌≡◌, ℕ, zero, suc, ◌+◌, ◌*◌, ◌/◌, ◌%◌, ◌<◌, ◌≤◌, Bool, true, false, not, ltb, Decides, sym, refl, ◌∙◌, subst, inl, inr, ⊎_elim, arith}
-use Rattle.std.proofs.lemmas.Bool.{both_ways, cases_Bool, cases_lt, cases_order, not-true, not-false, not_from_false, cond-true, cond-false, lt-ltb, le-ltb}
+use Rattle.std.proofs.lemmas.Bool.{false_from_ne_true, true_from_ne_false, both_ways, cases_Bool, cases_lt, cases_order, not-true, not-false, not_from_false, cond-true, cond-false, lt-ltb, le-ltb}
 use Rattle.std.proofs.lemmas.Bool.Decides.{Decides-like, Decides-and, Decides-not}
 use Rattle.charts.specs.Meaning.{Meaning}
 use Rattle.charts.specs.Search.{some_below}
@@ -10,7 +10,7 @@ use Rattle.charts.proofs.Places.{some_below_decides}
 use Rattle.layers.proofs.Sheets.{place_below, at_place, row_below, column_below}
 use Rattle.likeness.specs.Bisimulation.{Alike}
 use Rattle.likeness.specs.Levels.{Even, IsLevel, Closed, IsClosingDepth, even, even_states, first_below, level, has_level_after, some_level_after, closing_depth}
-use Rattle.likeness.proofs.Evenness.{false_unless, even_decides, even_unless, even_reflexive, even_symmetric, even_transitive, even_shrinks, bisimulation_even, closed_bisimulation, closed_even, even_states_decides}
+use Rattle.likeness.proofs.Evenness.{even_decides, even_unless, even_reflexive, even_symmetric, even_transitive, even_shrinks, bisimulation_even, closed_bisimulation, closed_even, even_states_decides}
 use Rattle.likeness.proofs.Counting.{first_below_is, count, count_at_most, count_grows, count_some}
 
 module _ (m : Meaning) where
@@ -43,7 +43,7 @@ module _ (m : Meaning) where
   )
 
   open_from : (k : ℕ) → (Closed m k → ⊥) → some_level_after m k ≡ true
-  open_from k still = ⊎_elim (λ e. e) (λ none. absurd (still (closed_from k none))) (cases_Bool (some_level_after m k))
+  open_from k still = true_from_ne_false (some_level_after m k) (λ none. still (closed_from k none))
 
   not_closed : (k : ℕ) → some_level_after m k ≡ true → Closed m k → ⊥
   not_closed k some closed = let h = (some_level_decides k).0 some in h.4.1 ((closed h.0 h.1 h.2 h.3).0 h.4.0)
@@ -95,7 +95,7 @@ module _ (m : Meaning) where
       (cases_order f.0 g.0)
     where
       follows : (s t : ℕ) → s < t → Even m k s t → leads k t ≡ false
-      follows s t less e = false_unless (leads k t) (λ leading. (leads_decides k t).0 leading (s, less, (even_decides m k s t).1 e))
+      follows s t less e = false_from_ne_true (leads k t) (λ leading. (leads_decides k t).0 leading (s, less, (even_decides m k s t).1 e))
 
   -- as long as each depth gives some pair a level, there are more leaders than depths
   leaders : (k : ℕ) → 0 < m.count → ((j : ℕ) → j < k → some_level_after m j ≡ true) → k < count (leads k) m.count

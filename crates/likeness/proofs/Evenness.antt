@@ -1,7 +1,7 @@
 -- Evenness to a depth: that the test tells it, that it is an equivalence, that it shrinks, and what bisimulations have to do with it.
 -- Assumes nothing.
 use Rattle.std.proofs.Common.{◌≡◌, ℕ, zero, suc, ◌<◌, ◌≤◌, Bool, true, false, not, ◌&&◌, Decides, refl, ⊎_elim, arith}
-use Rattle.std.proofs.lemmas.Bool.{both_ways, cases_Bool, and_parts, and_from, not-true, not_from_false}
+use Rattle.std.proofs.lemmas.Bool.{false_from_ne_true, both_ways, cases_Bool, and_parts, and_from, not-true, not_from_false}
 use Rattle.std.proofs.lemmas.Bool.Decides.{Decides-and, Decides-ltb}
 use Rattle.charts.specs.Meaning.{Meaning, has_move}
 use Rattle.charts.specs.Search.{some_below}
@@ -10,11 +10,6 @@ use Rattle.charts.proofs.Places.{some_below_decides}
 use Rattle.layers.proofs.Quieting.{some_with}
 use Rattle.likeness.specs.Bisimulation.{Answered, Matched, In, Bisimulation}
 use Rattle.likeness.specs.Levels.{Even, Closed, unanswered, even, even_states}
-
--- what is not true is false
-pub false_unless : (b : Bool) → (b ≡ true → ⊥) → b ≡ false
-false_unless true none = absurd (none refl)
-false_unless false none = refl
 
 module _ (m : Meaning) where
   -- a move of p by a to t is answered by q
@@ -36,7 +31,7 @@ module _ (m : Meaning) where
           label.0,
           target.0,
           parts.0,
-          λ u move. false_unless (rel target.0 u) (λ fits. both_ways _ (not-true _ parts.1)
+          λ u move. false_from_ne_true (rel target.0 u) (λ fits. both_ways _ (not-true _ parts.1)
               ((answer_found rel q label.0 target.0).1 (u, (move_inside m q label.0 u move).1, move, fits))),
         ),
     λ h.
@@ -47,7 +42,7 @@ module _ (m : Meaning) where
           (some_below_decides _ m.count).1 (
             h.1,
             inside.1,
-            and_from _ _ h.2 (not_from_false _ (false_unless (some_below m.count (λ u. has_move m q h.0 u && rel h.1 u))
+            and_from _ _ h.2 (not_from_false _ (false_from_ne_true (some_below m.count (λ u. has_move m q h.0 u && rel h.1 u))
                 (λ some. let answer = (answer_found rel q h.0 h.1).0 some in both_ways _ (h.3 answer.0 answer.2) answer.3))),
           ),
         ),
@@ -63,11 +58,11 @@ module _ (m : Meaning) where
           a,
           t,
           move,
-          λ u other. false_unless (rel t u)
+          λ u other. false_from_ne_true (rel t u)
               (λ fits. both_ways _ none ((answer_found rel q a t).1 (u, (move_inside m q a u other).1, other, fits))),
         ))))
         (cases_Bool (some_below m.count (λ u. has_move m q a u && rel t u))),
-    λ all. not_from_false _ (false_unless (unanswered m rel p q) (λ some.
+    λ all. not_from_false _ (false_from_ne_true (unanswered m rel p q) (λ some.
         let free = (unanswered_found rel p q).0 some in
         let answer = all free.0 free.1 free.2 in
         both_ways _ (free.3 answer.0 answer.1) ((each free.1 answer.0).1 answer.2))),

@@ -1,15 +1,16 @@
 -- Values laid over a list from its first place on, and the chart of a move sheet that is filled so. Assumes nothing.
-use Rattle.std.proofs.Common.{◌≡◌, ℕ, ◌+◌, ◌-◌, ◌*◌, ◌/◌, ◌%◌, ◌<◌, ◌≤◌, List, [], ◌∷◌, ◌++◌, map, length, get_or, drop, set, sym, refl, ap, ◌∙◌, subst, inl, inr, ⊎_elim, arith}
-use native.Mathlib.Nat.{sub_self}
-use Rattle.std.specs.List.{range_with_len}
-use Rattle.std.proofs.lemmas.List.{append_assoc, set-append_right, drop_more, get_or_append_left, get_or-append_right, get_or-drop, drop_at}
-use Rattle.std.proofs.lemmas.List.FromFn.{length-map-range_with_len, get_or-map-range_with_len, map-range_with_len_more}
-use Rattle.std.proofs.lemmas.Bool.{cases_lt}
+use Rattle.std.proofs.Common.{◌≡◌, ℕ, ◌+◌, ◌*◌, ◌/◌, ◌%◌, ◌<◌, ◌≤◌, List, ◌++◌, ◌&&◌, ltb, ◌⊎◌, length, get_or, drop, sym, ap, ◌∙◌, subst, inl, inr, ⊎_elim, arith}
+use Rattle.std.proofs.lemmas.List.{get_or_append_left, drop_at}
+use Rattle.std.proofs.lemmas.List.FromFn.{length-map-range_with_len, get_or-map-range_with_len, fill_by_all}
+use Rattle.std.proofs.lemmas.Bool.{cases_lt, cond-true, cond-false, and_from, and_left, and_right, lt-ltb, le-ltb}
 use Rattle.charts.specs.Meaning.{Meaning}
 use Rattle.charts.proofs.Meanings.{same_words}
 use Rattle.layers.specs.Sheet.{sheet_chart}
 use Rattle.layers.proofs.Sheets.{place_below, at_place, few_is, sheet_chart_count, sheet_chart_outside, sheet_chart_inside}
-use Rattle.likeness.specs.Sheet.{by_pairs, at_pair, laid, move_sheet}
+use Rattle.likeness.specs.declared.sheets.MoveSheet.{MoveSheet}
+use Rattle.likeness.specs.Levels.{level_to}
+use Rattle.likeness.specs.Reading.{chart_in, level_in}
+use Rattle.likeness.specs.Sheet.{by_pairs, at_pair, laid, move_sheet, level_sheet}
 
 -- the value of a pair stands at its place
 pub pairs_in_place : (n : ℕ) (f : ℕ → ℕ → ℕ) (p q : ℕ) → p < n → q < n → at_pair n (by_pairs n f) p q ≡ f p q
@@ -17,67 +18,55 @@ pairs_in_place n f p q hp hq =
     get_or-map-range_with_len (λ i. f (i / n) (i % n)) 0 (n * n) (p * n + q) (p * n + q) 0 (place_below n p q hp hq) (omega arith)
     ∙ at_place f n p q hq
 
-module _ {X : Type 0} (f : ℕ → X) (d : List X) where
-  -- the first i values
-  abbrev pub counted : ℕ → List X
-  counted i = map f (range_with_len 0 i)
+module _ (n : ℕ) (f : ℕ → ℕ → ℕ) where
+  pairs_long : length (by_pairs n f) ≡ n * n
+  pairs_long = length-map-range_with_len (λ i. f (i / n) (i % n)) 0 (n * n)
 
-  laid_is : (i : ℕ) → laid (counted i) d ≡ counted i ++ drop i d
-  unfolding laid
-  laid_is i = ap (λ k. counted i ++ drop k d) (length-map-range_with_len f 0 i)
+  module _ (d : List ℕ) where
+    laid_is : laid (by_pairs n f) d ≡ by_pairs n f ++ drop (n * n) d
+    unfolding laid
+    laid_is = ap (λ k. by_pairs n f ++ drop k d) pairs_long
 
-  pub laid_none : d ≡ laid (counted 0) d
-  unfolding laid
-  laid_none = refl
+    -- the value of a pair in a sheet laid over another
+    pub at_laid : (p q : ℕ) → p < n → q < n → at_pair n (laid (by_pairs n f) d) p q ≡ f p q
+    at_laid p q hp hq =
+        let within = place_below n p q hp hq in
+        ap (λ xs. at_pair n xs p q) laid_is
+        ∙ get_or_append_left (by_pairs n f) (drop (n * n) d) 0 (p * n + q) (omega (arith, pairs_long)) ∙ pairs_in_place n f p q hp hq
 
-  -- one value more, written or there already
-  split : (i : ℕ) (x : X) → counted i ++ (x ∷ drop (i + 1) d) ≡ (counted i ++ x ∷ []) ++ drop (i + 1) d
-  split i x = sym (append_assoc (counted i) (x ∷ []) (drop (i + 1) d))
-
-  more : (i : ℕ) → (counted i ++ f i ∷ []) ++ drop (i + 1) d ≡ laid (counted (i + 1)) d
-  more i = ap (λ xs. xs ++ drop (i + 1) d) (sym (map-range_with_len_more f 0 i i (omega arith))) ∙ sym (laid_is (i + 1))
-
-  pub laid_keep : (i : ℕ) (e : X) → i < length d → get_or d i e ≡ f i → laid (counted i) d ≡ laid (counted (i + 1)) d
-  laid_keep i e h is =
-      laid_is i ∙ ap (λ xs. counted i ++ xs) (drop_more d i e h ∙ ap (λ x. x ∷ drop (i + 1) d) is) ∙ split i (f i) ∙ more i
-
-  pub laid_write : (i : ℕ) → i < length d → set (laid (counted i) d) i (f i) ≡ laid (counted (i + 1)) d
-  laid_write i h =
-      ap (λ xs. set xs i (f i)) (laid_is i)
-      ∙ set-append_right (counted i) (drop i d) i i (f i) (length-map-range_with_len f 0 i) (omega arith)
-      ∙ ap (λ k. counted i ++ set (drop i d) k (f i)) (sub_self i)
-      ∙ ap (λ xs. counted i ++ set xs 0 (f i)) (drop_more d i (f i) h)
-      ∙ split i (f i) ∙ more i
-
-  -- what it holds
-  pub laid_before : (i j : ℕ) (e : X) → j < i → get_or (laid (counted i) d) j e ≡ f j
-  laid_before i j e h =
-      ap (λ xs. get_or xs j e) (laid_is i)
-      ∙ get_or_append_left (counted i) (drop i d) e j (subst (λ k. j < k) (sym (length-map-range_with_len f 0 i)) h)
-      ∙ get_or-map-range_with_len f 0 i j j e h (omega arith)
-
-  pub laid_from : (i j : ℕ) (e : X) → i ≤ j → get_or (laid (counted i) d) j e ≡ get_or d j e
-  laid_from i j e h =
-      ap (λ xs. get_or xs j e) (laid_is i)
-      ∙ get_or-append_right (counted i) (drop i d) i j e (length-map-range_with_len f 0 i) h
-      ∙ get_or-drop i d (j - i) e ∙ ap (λ k. get_or d k e) (omega arith)
+    -- a list whose first elements are the values of the pairs, with the tail of another behind them
+    pub laid_over : (front : List ℕ) → length front ≡ n * n → ((k : ℕ) → k < n * n → get_or front k 0 ≡ f (k / n) (k % n))
+        → front ++ drop (n * n) d ≡ laid (by_pairs n f) d
+    laid_over front long each = ap (λ xs. xs ++ drop (n * n) d) (fill_by_all (λ k. f (k / n) (k % n)) front (n * n) 0 long each) ∙ sym laid_is
 
 -- laid over once more
-pub laid_again : {X : Type 0} (xs ys d : List X) → length xs ≡ length ys → laid xs (laid ys d) ≡ laid xs d
-unfolding laid
-laid_again xs ys d same =
-    ap (λ zs. xs ++ zs) (drop_at ys (drop (length ys) d) (length xs) (sym same) ∙ ap (λ k. drop k d) (sym same))
+pub laid_again : (n : ℕ) (f g : ℕ → ℕ → ℕ) (d : List ℕ) → laid (by_pairs n f) (laid (by_pairs n g) d) ≡ laid (by_pairs n f) d
+laid_again n f g d =
+    laid_is n f (laid (by_pairs n g) d)
+    ∙ ap (λ xs. by_pairs n f ++ drop (n * n) xs) (laid_is n g d)
+    ∙ ap (λ xs. by_pairs n f ++ xs) (drop_at (by_pairs n g) (drop (n * n) d) (n * n) (pairs_long n g))
+    ∙ sym (laid_is n f d)
 
--- the value of a pair in a sheet laid over another
-pub at_laid : (n : ℕ) (f : ℕ → ℕ → ℕ) (d : List ℕ) (p q : ℕ) → p < n → q < n → at_pair n (laid (by_pairs n f) d) p q ≡ f p q
-at_laid n f d p q hp hq =
-    laid_before (λ i. f (i / n) (i % n)) d (n * n) (p * n + q) 0 (place_below n p q hp hq)
-    ∙ at_place f n p q hq
+-- the level that is read of a pair of states, and of others
+pub level_inside : (n : ℕ) (levels : List ℕ) (p q : ℕ) → p < n → q < n → level_in n levels p q ≡ at_pair n levels p q
+unfolding level_in
+level_inside n levels p q hp hq = cond-true (ltb p n && ltb q n) _ 0 (and_from _ _ (lt-ltb p n hp) (lt-ltb q n hq))
 
-pub laid_pairs_again : (n : ℕ) (f g : ℕ → ℕ → ℕ) (d : List ℕ) → laid (by_pairs n f) (laid (by_pairs n g) d) ≡ laid (by_pairs n f) d
-laid_pairs_again n f g d =
-    laid_again (by_pairs n f) (by_pairs n g) d
-    (length-map-range_with_len (λ i. f (i / n) (i % n)) 0 (n * n) ∙ sym (length-map-range_with_len (λ i. g (i / n) (i % n)) 0 (n * n)))
+pub level_outside : (n : ℕ) (levels : List ℕ) (p q : ℕ) → (n ≤ p) ⊎ ((p < n) × (n ≤ q)) → level_in n levels p q ≡ 0
+unfolding level_in
+level_outside n levels p q (inl out) = cond-false _ _ _ (and_left _ _ (le-ltb p n out))
+level_outside n levels p q (inr (_, out)) = cond-false _ _ _ (and_right _ _ (le-ltb q n out))
+
+-- the level of a pair of states, where the levels up to r are laid over another sheet
+pub level_laid : (n : ℕ) (m : Meaning) → n ≡ m.count → (r : ℕ) (d : List ℕ) (p q : ℕ) → p < n → q < n
+    → level_in n (laid (level_sheet m r) d) p q ≡ level_to m r p q
+level_laid n m n_is r d p q hp hq =
+    level_inside n (laid (level_sheet m r) d) p q hp hq
+    ∙ ap (λ k. at_pair k (laid (level_sheet m r) d) p q) n_is ∙ at_laid m.count (level_to m r) d p q (omega arith) (omega arith)
+
+-- a move sheet that is kept is of the same chart
+pub count_kept : (o kept : MoveSheet) → o ≡ kept → o.count ≡ (chart_in kept).count
+count_kept o kept same = ap (λ s. s.count) same ∙ sym (sheet_chart_count kept.count kept.few kept.words.now)
 
 -- the chart of a filled move sheet is the chart
 module _ (m : Meaning) (n : ℕ) (n_is : n ≡ m.count) (d : List ℕ) where

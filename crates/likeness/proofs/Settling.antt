@@ -1,11 +1,11 @@
 -- What a round gives, and when the rounds settle a pair. Assumes nothing.
 use Rattle.std.proofs.Common.{◌≡◌, ℕ, suc, ◌<◌, ◌≤◌, true, false, sym, ◌∙◌, subst, ⊎_elim, arith}
-use Rattle.std.proofs.lemmas.Bool.{both_ways, cases_lt, cases_order, cond-true, cond-false, lt-ltb, le-ltb}
+use Rattle.std.proofs.lemmas.Bool.{false_from_ne_true, both_ways, cases_lt, cases_order, cond-true, cond-false, lt-ltb, le-ltb}
 use Rattle.charts.specs.Meaning.{Meaning}
 use Rattle.likeness.specs.Levels.{Even, level, level_to, has_level_after, some_level_after, closing_depth}
 use Rattle.likeness.specs.Attack.{Attack}
 use Rattle.likeness.specs.Settle.{rounds_needed}
-use Rattle.likeness.proofs.Evenness.{false_unless, even_unless, closed_even}
+use Rattle.likeness.proofs.Evenness.{even_unless, closed_even}
 use Rattle.likeness.proofs.Closing.{level_told, level_below, has_level_after_decides, closed_from, open_below, closing_found}
 use Rattle.likeness.proofs.Attacks.{level_of_uneven, uneven_at_level, level_to_low, level_to_high, level_to_tells, attack_uneven, uneven_attack}
 
@@ -38,7 +38,7 @@ module _ (m : Meaning) where
         (cases_lt r (level m p q))
 
     not_after : (Even m r p q → Even m (suc r) p q) → has_level_after m r p q ≡ false
-    not_after goes = false_unless (has_level_after m r p q) (λ some. let h = (has_level_after_decides m r p q).0 some in h.1 (goes h.0))
+    not_after goes = false_from_ne_true (has_level_after m r p q) (λ some. let h = (has_level_after_decides m r p q).0 some in h.1 (goes h.0))
 
     -- a pair without a level that has an attack gets it
     pub gets_level : level_to m r p q ≡ 0 → (Even m (suc r) p q → ⊥) → (suc r ≡ level_to m (suc r) p q) × (has_level_after m r p q ≡ true)

@@ -1,114 +1,142 @@
 -- A round over a level sheet, place by place. Assumes nothing.
-use Rattle.std.proofs.Common.{◌≡◌, ℕ, suc, ◌+◌, ◌*◌, ◌/◌, ◌%◌, ◌<◌, ◌≤◌, Bool, true, false, ◌||◌, eqb, List, length, get_or, set, sym, refl, ap, ◌∙◌, subst, ap₂, ⊎_elim, add-one, arith}
-use Rattle.std.proofs.lemmas.Bool.{cases_lt, eqb-true, eqb-false}
+use Rattle.std.proofs.Common.{◌≡◌, ℕ, suc, ◌+◌, ◌*◌, ◌/◌, ◌%◌, ◌<◌, ◌≤◌, Bool, true, false, ◌||◌, List, ◌++◌, length, get_or, take, drop, set, sym, refl, ap, ◌∙◌, subst, ⊎_elim, add-one, below_more, arith}
+use Rattle.std.proofs.lemmas.Bool.{cases_lt}
+use Rattle.std.proofs.lemmas.List.{length-set, length-take-le, get_or-take, get_or-set_other, drop-set-lt, take-append-drop}
+use Rattle.std.proofs.lemmas.List.Edits.{fill_by_more}
+use Rattle.std.proofs.lemmas.Nat.{div-add-mod'}
+use Rattle.charts.specs.Meaning.{Meaning}
 use Rattle.charts.specs.Search.{some_below}
-use Rattle.layers.specs.Sheet.{sheet_chart}
-use Rattle.layers.proofs.Sheets.{place_below, at_place, row_below, column_below, sheet_chart_count}
+use Rattle.layers.proofs.Sheets.{at_place, row_below, column_below}
 use Rattle.likeness.specs.Levels.{Even, level_to, has_level_after, some_level_after}
 use Rattle.likeness.specs.Attack.{Lower, Attack}
-use Rattle.likeness.specs.Sheet.{by_pairs, at_pair, laid}
+use Rattle.likeness.specs.Reading.{level_in}
+use Rattle.likeness.specs.Sheet.{by_pairs, laid, level_sheet}
 use Rattle.likeness.proofs.Evenness.{even_unless}
 use Rattle.likeness.proofs.Attacks.{Tells, level_to_tells, attack_uneven, uneven_attack}
-use Rattle.likeness.proofs.Laying.{counted, laid_none, laid_keep, laid_write, laid_before, laid_from}
+use Rattle.likeness.proofs.Laying.{laid_over, level_inside}
 use Rattle.likeness.proofs.Settling.{gets_level, gets_none, keeps_level}
 
--- A round on a sheet d that holds the levels up to r.
-abbrev pub next_level_at : ℕ → List ℕ → ℕ → ℕ → ℕ
-next_level_at n moves r i = level_to (sheet_chart n moves) (suc r) (i / n) (i % n)
+-- a level sheet of n states holds their levels up to r
+abbrev pub LevelsTo : Meaning → ℕ → ℕ → List ℕ → Type 0
+LevelsTo m n r d = (p q : ℕ) → p < n → q < n → level_in n d p q ≡ level_to m r p q
 
-abbrev pub given_at : ℕ → List ℕ → ℕ → ℕ → Bool
-given_at n moves r i = has_level_after (sheet_chart n moves) r (i / n) (i % n)
+-- the level that a round gives the pair at place i, and whether it is new
+abbrev pub next_at : Meaning → ℕ → ℕ → ℕ → ℕ
+next_at m n r i = level_to m (suc r) (i / n) (i % n)
 
--- the pairs before place i have been seen to: what the sheet holds then, and whether some pair has been given a level
-pub record Turned (n : ℕ) (moves : List ℕ) (r : ℕ) (d : List ℕ) (i : ℕ) (levels : List ℕ) (given : Bool) : Type 0 where
-  pub few : n ≤ 128
-  pub room : n * n ≤ length d
-  pub before : (j : ℕ) → j < n * n → get_or d j 0 ≡ level_to (sheet_chart n moves) r (j / n) (j % n)
-  pub sheet : levels ≡ laid (counted (next_level_at n moves r) d i) d
-  pub some_given : given ≡ some_below i (given_at n moves r)
+abbrev pub given_at : Meaning → ℕ → ℕ → ℕ → Bool
+given_at m n r i = has_level_after m r (i / n) (i % n)
 
-pub turned_none : (n : ℕ) (moves : List ℕ) (r : ℕ) (d : List ℕ) → n ≤ 128 → n * n ≤ length d
-    → ((j : ℕ) → j < n * n → get_or d j 0 ≡ level_to (sheet_chart n moves) r (j / n) (j % n)) → Turned n moves r d 0 d false
+-- A round on a sheet d that holds the levels up to r: the pairs before place i have been seen to, and some of them has been given a level
+-- or not.
+pub record Turned (m : Meaning) (n r : ℕ) (d : List ℕ) (i : ℕ) (levels : List ℕ) (given : Bool) : Type 0 where
+  pub n_is : n ≡ m.count
+  pub room : n * n ≤ length levels
+  pub before : LevelsTo m n r d
+  pub seen : (k : ℕ) → k < i → get_or levels k 0 ≡ next_at m n r k
+  pub unseen : (k : ℕ) → i ≤ k → get_or levels k 0 ≡ get_or d k 0
+  pub tail : drop (n * n) levels ≡ drop (n * n) d
+  pub some_given : given ≡ some_below i (given_at m n r)
+
+pub turned_none : (m : Meaning) (n r : ℕ) (d : List ℕ) → n ≡ m.count → n * n ≤ length d → LevelsTo m n r d → Turned m n r d 0 d false
 unfolding some_below
-turned_none n moves r d few room before =
-    record { few = few; room = room; before = before; sheet = laid_none (next_level_at n moves r) d; some_given = refl }
+turned_none m n r d n_is room before = record {
+  n_is = n_is;
+  room = room;
+  before = before;
+  seen = λ k h. absurd (omega arith);
+  unseen = λ k _. refl;
+  tail = refl;
+  some_given = refl;
+}
 
-module _ {n : ℕ} {moves : List ℕ} {r : ℕ} {d : List ℕ} {i : ℕ} {levels : List ℕ} {given : Bool} (turned : Turned n moves r d i levels given) where
+module _ {m : Meaning} {n r : ℕ} {d : List ℕ} {i : ℕ} {levels : List ℕ} {given : Bool} (turned : Turned m n r d i levels given) where
   -- the levels tell evenness to depth r, before place i and from it on
-  tells : Tells (sheet_chart n moves) (at_pair n levels) r
+  tells : Tells m (level_in n levels) r
   tells t u ht hu =
-      let m = sheet_chart n moves in
-      let next = next_level_at n moves r in
-      let states = sheet_chart_count n turned.few moves in
+      let n_is = turned.n_is in
       let htn : t < n = omega arith in
       let hun : u < n = omega arith in
-      let read : at_pair n levels t u ≡ at_pair n (laid (counted next d i) d) t u = ap (λ xs. at_pair n xs t u) turned.sheet in
+      let read = level_inside n levels t u htn hun in
       let Good : ℕ → Type 0 = λ l. (Lower (suc r) l → Even m r t u → ⊥) × ((Even m r t u → ⊥) → Lower (suc r) l) in
       ⊎_elim
-      (λ seen. subst Good (sym (read ∙ laid_before next d i (t * n + u) 0 seen ∙ at_place (level_to m (suc r)) n t u hun)) (level_to_tells m r (suc r) (omega arith) t u ht hu))
-      (λ unseen. subst Good (sym (read ∙ laid_from next d i (t * n + u) 0 unseen ∙ turned.before (t * n + u) (place_below n t u htn hun) ∙ at_place (level_to m r) n t u hun))
+      (λ seen. subst Good (sym (read ∙ turned.seen (t * n + u) seen ∙ at_place (level_to m (suc r)) n t u hun))
+      (level_to_tells m r (suc r) (omega arith) t u ht hu))
+      (λ unseen. subst Good (sym (read ∙ turned.unseen (t * n + u) unseen ∙ sym (level_inside n d t u htn hun) ∙ turned.before t u htn hun))
       (level_to_tells m r r (omega arith) t u ht hu))
       (cases_lt (t * n + u) i)
 
   module _ (within : i < n * n) where
-    row_state : i / n < (sheet_chart n moves).count
-    row_state = let states = sheet_chart_count n turned.few moves in omega (arith, row_below n i within)
+    row_state : i / n < m.count
+    row_state = let n_is = turned.n_is in omega (arith, row_below n i within)
 
-    column_state : i % n < (sheet_chart n moves).count
-    column_state = let states = sheet_chart_count n turned.few moves in omega (arith, column_below n i within)
+    column_state : i % n < m.count
+    column_state = let n_is = turned.n_is in omega (arith, column_below n i within)
 
-    level_here : get_or levels i 0 ≡ level_to (sheet_chart n moves) r (i / n) (i % n)
-    level_here = ap (λ xs. get_or xs i 0) turned.sheet ∙ laid_from (next_level_at n moves r) d i i 0 (omega arith) ∙ turned.before i within
+    -- the level that stands at the place
+    level_here : get_or levels i 0 ≡ level_to m r (i / n) (i % n)
+    level_here =
+        let row = row_below n i within in
+        let column = column_below n i within in
+        turned.unseen i (omega arith) ∙ ap (λ k. get_or d k 0) (sym (div-add-mod' i n))
+        ∙ sym (level_inside n d (i / n) (i % n) row column) ∙ turned.before (i / n) (i % n) row column
 
-    some_on : (b : Bool) → given_at n moves r i ≡ b → some_below (i + 1) (given_at n moves r) ≡ (b || some_below i (given_at n moves r))
+    some_on : (b : Bool) → given_at m n r i ≡ b → some_below (i + 1) (given_at m n r) ≡ (b || some_below i (given_at m n r))
     unfolding some_below
-    some_on b is = ap (λ j. some_below j (given_at n moves r)) (add-one i) ∙ ap (λ c. c || some_below i (given_at n moves r)) is
+    some_on b is = ap (λ j. some_below j (given_at m n r)) (add-one i) ∙ ap (λ c. c || some_below i (given_at m n r)) is
 
     -- the pair stays as it is
-    stays_so : (level_to (sheet_chart n moves) r (i / n) (i % n) ≡ next_level_at n moves r i) × (given_at n moves r i ≡ false) → Turned n moves r d (i + 1) levels given
+    stays_so : (level_to m r (i / n) (i % n) ≡ next_at m n r i) × (given_at m n r i ≡ false) → Turned m n r d (i + 1) levels given
     stays_so same = record {
-      few = turned.few;
+      n_is = turned.n_is;
       room = turned.room;
       before = turned.before;
-      sheet = turned.sheet ∙ laid_keep (next_level_at n moves r) d i 0 (omega (arith, turned.room)) (turned.before i within ∙ same.0);
+      seen = below_more _ _ turned.seen (level_here ∙ same.0);
+      unseen = λ k h. turned.unseen k (omega arith);
+      tail = turned.tail;
       some_given = turned.some_given ∙ sym (some_on false same.1);
     }
 
-    pub turn_settled : eqb (get_or levels i 0) 0 ≡ false → Turned n moves r d (i + 1) levels given
-    turn_settled some = stays_so (keeps_level (sheet_chart n moves) r (i / n) (i % n) row_state column_state (λ none. eqb-false _ _ some (level_here ∙ none)))
+    pub turn_settled : (get_or levels i 0 ≡ 0 → ⊥) → Turned m n r d (i + 1) levels given
+    turn_settled some = stays_so (keeps_level m r (i / n) (i % n) row_state column_state (λ none. some (level_here ∙ none)))
 
     -- attacks at level k, the next one
-    module _ {k : ℕ} (k_is : k ≡ suc r) (none : eqb (get_or levels i 0) 0 ≡ true) where
-      no_level_here : level_to (sheet_chart n moves) r (i / n) (i % n) ≡ 0
-      no_level_here = sym level_here ∙ eqb-true _ _ none
-
-      pub turn_unattacked : (Attack (sheet_chart n moves) (at_pair n levels) k (i / n) (i % n) → ⊥) → Turned n moves r d (i + 1) levels given
+    module _ {k : ℕ} (k_is : k ≡ suc r) (none : get_or levels i 0 ≡ 0) where
+      pub turn_unattacked : (Attack m (level_in n levels) k (i / n) (i % n) → ⊥) → Turned m n r d (i + 1) levels given
       turn_unattacked off =
-          stays_so (gets_none (sheet_chart n moves) r (i / n) (i % n) row_state column_state no_level_here
-          (even_unless (sheet_chart n moves) (suc r) (i / n) (i % n)
-          (λ odd. off (subst (λ l. Attack (sheet_chart n moves) (at_pair n levels) l (i / n) (i % n)) (sym k_is)
-          (uneven_attack (sheet_chart n moves) r (at_pair n levels) tells (i / n) (i % n) odd)))))
+          stays_so (gets_none m r (i / n) (i % n) row_state column_state (sym level_here ∙ none)
+          (even_unless m (suc r) (i / n) (i % n) (λ odd. off (subst (λ l. Attack m (level_in n levels) l (i / n) (i % n)) (sym k_is)
+          (uneven_attack m r (level_in n levels) tells (i / n) (i % n) odd)))))
 
-      pub turn_attacked : Attack (sheet_chart n moves) (at_pair n levels) k (i / n) (i % n) → Turned n moves r d (i + 1) (set levels i k) true
+      pub turn_attacked : Attack m (level_in n levels) k (i / n) (i % n) → Turned m n r d (i + 1) (set levels i k) true
       turn_attacked attack =
-          let new = gets_level (sheet_chart n moves) r (i / n) (i % n) row_state column_state no_level_here
-          (attack_uneven (sheet_chart n moves) r (at_pair n levels) tells (i / n) (i % n)
-          (subst (λ l. Attack (sheet_chart n moves) (at_pair n levels) l (i / n) (i % n)) k_is attack)) in
+          let room = turned.room in
+          let new = gets_level m r (i / n) (i % n) row_state column_state (sym level_here ∙ none)
+          (attack_uneven m r (level_in n levels) tells (i / n) (i % n)
+          (subst (λ l. Attack m (level_in n levels) l (i / n) (i % n)) k_is attack)) in
           record {
-            few = turned.few;
-            room = turned.room;
+            n_is = turned.n_is;
+            room = omega (arith, length-set levels i k);
             before = turned.before;
-            sheet = ap₂ (λ xs l. set xs i l) turned.sheet (k_is ∙ new.0) ∙ laid_write (next_level_at n moves r) d i (omega (arith, turned.room));
+            seen = subst (λ l. (j : ℕ) → j < i + 1 → get_or (set levels i l) j 0 ≡ next_at m n r j) (sym (k_is ∙ new.0))
+                (fill_by_more (next_at m n r) levels i 0 (omega arith) turned.seen);
+            unseen = λ j h. get_or-set_other levels i j k 0 (omega arith) ∙ turned.unseen j (omega arith);
+            tail = drop-set-lt (n * n) levels i k within ∙ turned.tail;
             some_given = sym (some_on true new.1);
           }
 
   -- every pair has been seen to
   module _ (all : i ≡ n * n) where
-    pub round_levels : levels ≡ laid (by_pairs n (level_to (sheet_chart n moves) (suc r))) d
-    round_levels = turned.sheet ∙ ap (λ j. laid (counted (next_level_at n moves r) d j) d) all
+    pub round_levels : levels ≡ laid (level_sheet m (suc r)) d
+    round_levels =
+        sym (take-append-drop (n * n) levels)
+        ∙ ap (λ xs. take (n * n) levels ++ xs) turned.tail
+        ∙ laid_over n (level_to m (suc r)) d (take (n * n) levels) (length-take-le (n * n) levels turned.room)
+        (λ k h. get_or-take (n * n) levels k 0 h ∙ turned.seen k (omega arith))
+        ∙ ap (λ c. laid (by_pairs c (level_to m (suc r))) d) turned.n_is
 
-    pub round_given : given ≡ some_level_after (sheet_chart n moves) r
+    pub round_given : given ≡ some_level_after m r
     unfolding some_level_after
     round_given =
-        turned.some_given ∙ ap (λ j. some_below j (given_at n moves r)) all
-        ∙ ap (λ c. some_below (c * c) (λ j. has_level_after (sheet_chart n moves) r (j / c) (j % c))) (sym (sheet_chart_count n turned.few moves))
+        turned.some_given ∙ ap (λ j. some_below j (given_at m n r)) all
+        ∙ ap (λ c. some_below (c * c) (λ j. has_level_after m r (j / c) (j % c))) turned.n_is

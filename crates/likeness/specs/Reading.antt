@@ -1,27 +1,27 @@
 -- What the attack test reads: a move sheet and a level sheet of so many states.
 -- Assumes nothing.
-use Rattle.std.specs.Prelude.{ℕ}
+use Rattle.std.specs.Prelude.{◌≡◌, ℕ, ◌&&◌, if◌then◌else◌, List, nat_lt}
 use Rattle.charts.specs.Meaning.{Meaning}
 use Rattle.layers.specs.Sheet.{sheet_chart}
-use Rattle.likeness.specs.Attack.{Lower, AttackBy}
 use Rattle.likeness.specs.Sheet.{at_pair}
+use Rattle.likeness.specs.declared.sheets.MoveSheet.{MoveSheet}
 use Rattle.likeness.specs.declared.sheets.Sheets.{Sheets}
-use Rattle.likeness.specs.declared.sheets.Side.{Side}
-use Rattle.likeness.specs.declared.sheets.Side.TheVariants.{Left, Right}
 
--- the chart whose words are in the move sheet
+-- the level of a pair of n states in a sheet, and 0 where either is no state
+unfoldable pub level_in : ℕ → List ℕ → ℕ → ℕ → ℕ
+level_in n levels p q = if nat_lt p n && nat_lt q n then at_pair n levels p q else 0
+
+-- the chart whose words are in a move sheet
+abbrev pub chart_in : MoveSheet → Meaning
+chart_in o = sheet_chart o.count o.words.now
+
 abbrev pub chart_on : Sheets → Meaning
-chart_on s = sheet_chart s.count s.moves.now
+chart_on s = chart_in s.moves
 
 -- the levels in the level sheet
 abbrev pub levels_on : Sheets → ℕ → ℕ → ℕ
-levels_on s = at_pair s.count s.levels.now
+levels_on s = level_in s.moves.count s.levels.now
 
--- the mover goes to t and the answerer to u, and the level of the pair that they reach, with the left state's target first, is 1 to k - 1
-abbrev pub LowerReached : Side → ℕ → (ℕ → ℕ → ℕ) → ℕ → ℕ → Type 0
-LowerReached Left k levels t u = Lower k (levels t u)
-LowerReached Right k levels t u = Lower k (levels u t)
-
--- the state on one side attacks the other, at level k
-abbrev pub AttackFrom : Side → Sheets → ℕ → ℕ → ℕ → Type 0
-AttackFrom side s k mover answerer = AttackBy (chart_on s) (LowerReached side k (levels_on s)) mover answerer
+-- after a call the sheets are the same ones, whatever levels the level sheet holds
+abbrev pub SameSheets : Sheets → Sheets → Type 0
+SameSheets old new = (new.moves ≡ old.moves) × (new.levels.ghost_name ≡ old.levels.ghost_name)

@@ -1,5 +1,5 @@
 // The refusals of this crate's calls. specs/Refusals.antt says which number and values each case stands for.
-ghost use Rattle.std.specs.Prelude.{◌≡◌, ◌++◌, Some, codes, decimal};
+ghost use Rattle.std.specs.Prelude.{◌≡◌};
 ghost use Rattle.likeness.specs.Refusals.{told_by};
 
 use std::error::Error;
@@ -15,7 +15,7 @@ pub enum Refusal {
     LimitTooSmall,
 }
 
-// The number of the refusal.
+// The number of a refusal.
 impl From<Refusal> for u8 {
     ghost from_gives = { λ refusal number. number ≡ (told_by refusal).number };
 
@@ -29,6 +29,8 @@ impl From<Refusal> for u8 {
 }
 
 impl fmt::Display for Refusal {
+    ghost use Rattle.std.specs.Prelude.{◌++◌, Some, codes, decimal};
+
     ghost output = { λ refusal. Some (codes "refused, number " ++ decimal (told_by refusal).number) };
 
     fn fmt<W: fmt::Write>(&self, f: &mut fmt::Formatter<W>) -> fmt::Result {

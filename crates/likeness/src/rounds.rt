@@ -1,18 +1,18 @@
 // The rounds that give the pairs of states their levels, and the call that settles a pair.
-ghost use Rattle.std.specs.Prelude.{◌≡◌, ℕ, suc, ◌*◌, ◌/◌, ◌%◌, ◌<◌, ◌≤◌, min, length, slice_index};
+ghost use Rattle.std.specs.Prelude.{◌≡◌, ℕ, suc, ◌<◌, min};
 ghost use Rattle.charts.specs.Refusals.{answer_told};
-ghost use Rattle.layers.specs.Sheet.{sheet_chart};
 ghost use Rattle.likeness.specs.Attack.{AttackedLevelsNeverLie, LevelsAreAttacked, LevelsGrowByAttacks};
 ghost use Rattle.likeness.specs.Bisimulation.{WeakIsStrongWhenQuiet};
 ghost use Rattle.likeness.specs.Formula.{AfterIsTold, UnevenIsDistinguished};
 ghost use Rattle.likeness.specs.Levels.{level_to, some_level_after, EvenIsTold, EvenIsAnEquivalence, EvenShrinks, ClosedForGood, ClosedIsABisimulation, BisimulationsAreEven, LevelIsTold, ClosingDepthIsTold, LevelsAreBelowTheCount, ClosingDepthIsBelowTheCount, AlikeAtLevel0};
+ghost use Rattle.likeness.specs.Reading.{chart_on, levels_on, SameSheets};
 ghost use Rattle.likeness.specs.Refusals.{told_by};
 ghost use Rattle.likeness.specs.Settle.{rounds_needed, settled_answer, settling, RoundsAreAtMostTheCount, VerdictsAreTrue};
-ghost use Rattle.likeness.specs.Sheet.{by_pairs, laid};
+ghost use Rattle.likeness.specs.Sheet.{by_pairs, laid, level_sheet};
 
-use crate::moves::write_words;
+use crate::moves::fill_moves;
 use crate::refusal::Refusal;
-use crate::sheets::Sheets;
+use crate::sheets::{MoveSheet, Sheets};
 use charts::chart::Chart;
 
 // Settles two states of a chart: their depth, which is their level and 0 where they are alike, and the rounds that were run to find it.
@@ -51,77 +51,67 @@ pub fn settle<C: Chart>(
     if p >= n || q >= n {
         return Err(Refusal::NoSuchState);
     }
-    if moves.len() < n * n || levels.len() < n * n {
+    if levels.len() < n * n {
         return Err(Refusal::ShortSheet);
     }
-    write_words(chart, moves);
-    clear(n, levels);
-    run_rounds(n, moves, levels, p, q, limit)
+    fill_moves(chart, moves)?;
+    let moves = MoveSheet {
+        count: n,
+        words: moves,
+    };
+    let mut sheets = Sheets { moves, levels };
+    sheets.run_rounds(p, q, limit)
 }
 
-// Runs rounds on a clear level sheet until the pair has a level, a round gives no pair one, or the limit is reached.
-fn run_rounds(
-    n: usize,
-    moves: &[u32],
-    levels: &mut [u8],
-    p: usize,
-    q: usize,
-    limit: usize,
-) -> Result<(u8, u8), Refusal>
-    requires few { n ≤ 128 }
-    requires moves_suffice { n * n ≤ length moves.now }
-    requires levels_suffice { n * n ≤ length levels.old }
-    requires p_below { p < n }
-    requires q_below { q < n }
-    requires levels_clear { levels.old ≡ laid (by_pairs n (λ _ _. 0)) levels.old }
-    ensures answer { answer_told told_by result ≡ settled_answer (sheet_chart n moves.now) p q limit }
-    ensures levels_after { levels.new ≡ laid (by_pairs n (level_to (sheet_chart n moves.now) (min limit (rounds_needed (sheet_chart n moves.now) p q)))) levels.old }
-{
-    let mut rounds: u8 = 0;
-    'rounds: while usize::from(rounds) < limit {
-        let given = run_round(n, moves, levels, rounds);
-        rounds += 1;
-        let depth = levels[p * n + q];
-        if depth > 0 || !given {
-            return Ok((depth, rounds));
+impl Sheets<'_, '_> {
+    // Clears the level sheet, and runs rounds until the pair has a level, a round gives no pair one, or the limit is reached.
+    fn run_rounds(&mut self, p: usize, q: usize, limit: usize) -> Result<(u8, u8), Refusal>
+        requires p_below { p < self.old.moves.count }
+        requires q_below { q < self.old.moves.count }
+        ensures answer { answer_told told_by result ≡ settled_answer (chart_on self.old) p q limit }
+        ensures levels_after { self.new.levels.now ≡ laid (level_sheet (chart_on self.old) (min limit (rounds_needed (chart_on self.old) p q))) self.old.levels.now }
+        ensures same_sheets { SameSheets self.old self.new }
+    {
+        self.clear();
+        // No pair takes more rounds than there are states.
+        let most = limit.min(self.moves.count) as u8;
+        for rounds in 0..most {
+            let given = self.run_round(rounds);
+            let depth = self.level_of(p, q);
+            if depth > 0 || !given {
+                return Ok((depth, rounds + 1));
+            }
         }
+        Err(Refusal::LimitTooSmall)
     }
-    Err(Refusal::LimitTooSmall)
-}
 
-// Sets the levels of all pairs to 0.
-fn clear(n: usize, levels: &mut [u8])
-    requires few { n ≤ 128 }
-    requires levels_suffice { n * n ≤ length levels.old }
-    ensures levels_after { levels.new ≡ laid (by_pairs n (λ _ _. 0)) levels.old }
-{
-    for place in 0..n * n {
-        levels[place] = 0;
+    // Sets the levels of all pairs to 0.
+    fn clear(&mut self)
+        ensures levels_after { self.new.levels.now ≡ laid (by_pairs self.old.moves.count (λ _ _. 0)) self.old.levels.now }
+        ensures same_sheets { SameSheets self.old self.new }
+    {
+        let n = self.moves.count;
+        self.levels[..n * n].fill(0);
     }
-}
 
-// One round more: the pairs whose level is one more than the rounds before it are given it. Answers whether there is such a pair.
-fn run_round(n: usize, moves: &[u32], levels: &mut [u8], rounds: u8) -> bool
-    requires few { n ≤ 128 }
-    requires moves_suffice { n * n ≤ length moves.now }
-    requires levels_suffice { n * n ≤ length levels.old }
-    requires level_fits { rounds < 255 }
-    requires levels_before { (i : ℕ) → i < n * n → slice_index levels.old i ≡ level_to (sheet_chart n moves.now) rounds (i / n) (i % n) }
-    ensures given { result ≡ some_level_after (sheet_chart n moves.now) rounds }
-    ensures levels_after { levels.new ≡ laid (by_pairs n (level_to (sheet_chart n moves.now) (suc rounds))) levels.old }
-{
-    let level = rounds + 1;
-    let mut given = false;
-    for i in 0..n * n {
-        let sheets = Sheets {
-            count: n,
-            moves,
-            levels,
-        };
-        if sheets.is_unsettled(i) && sheets.has_attack(i / n, i % n, level) {
-            levels[i] = level;
-            given = true;
+    // One round more: the pairs whose level is one more than the rounds before it are given it. Answers whether there is such a pair.
+    fn run_round(&mut self, rounds: u8) -> bool
+        requires level_fits { rounds < 255 }
+        requires levels_before { (p q : ℕ) → p < self.old.moves.count → q < self.old.moves.count → levels_on self.old p q ≡ level_to (chart_on self.old) rounds p q }
+        ensures given { result ≡ some_level_after (chart_on self.old) rounds }
+        ensures levels_after { self.new.levels.now ≡ laid (level_sheet (chart_on self.old) (suc rounds)) self.old.levels.now }
+        ensures same_sheets { SameSheets self.old self.new }
+    {
+        let n = self.moves.count;
+        let level = rounds + 1;
+        let mut given = false;
+        // The round writes the sheet that it reads, so it goes by places.
+        for i in 0..n * n {
+            if self.levels[i] == 0 && self.has_attack(i / n, i % n, level) {
+                self.levels[i] = level;
+                given = true;
+            }
         }
+        given
     }
-    given
 }
