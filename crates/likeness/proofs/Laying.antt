@@ -7,7 +7,7 @@ use Rattle.charts.specs.Meaning.{Meaning}
 use Rattle.charts.proofs.Meanings.{same_words}
 use Rattle.layers.specs.Sheet.{sheet_chart}
 use Rattle.layers.proofs.Sheets.{place_below, at_place, few_is, sheet_chart_count, sheet_chart_outside, sheet_chart_inside}
-use Rattle.likeness.specs.declared.sheets.MoveSheet.{MoveSheet}
+use Rattle.layers.specs.declared.sheet.LentSheet.{LentSheet}
 use Rattle.likeness.specs.Levels.{level_to}
 use Rattle.likeness.specs.Reading.{chart_in, level_in}
 use Rattle.likeness.specs.Sheet.{by_pairs, at_pair, laid, move_sheet, level_sheet}
@@ -65,7 +65,7 @@ level_laid n m n_is r d p q hp hq =
     ∙ ap (λ k. at_pair k (laid (level_sheet m r) d) p q) n_is ∙ at_laid m.count (level_to m r) d p q (omega arith) (omega arith)
 
 -- a move sheet that is kept is of the same chart
-pub count_kept : (o kept : MoveSheet) → o ≡ kept → o.count ≡ (chart_in kept).count
+pub count_kept : (o kept : LentSheet) → o ≡ kept → o.count ≡ (chart_in kept).count
 count_kept o kept same = ap (λ s. s.count) same ∙ sym (sheet_chart_count kept.count kept.few kept.words.now)
 
 -- the chart of a filled move sheet is the chart

@@ -4,7 +4,7 @@ use Rattle.std.specs.Prelude.{◌≡◌, ℕ, ◌&&◌, if◌then◌else◌, Lis
 use Rattle.charts.specs.Meaning.{Meaning}
 use Rattle.layers.specs.Sheet.{sheet_chart}
 use Rattle.likeness.specs.Sheet.{at_pair}
-use Rattle.likeness.specs.declared.sheets.MoveSheet.{MoveSheet}
+use Rattle.layers.specs.declared.sheet.LentSheet.{LentSheet}
 use Rattle.likeness.specs.declared.sheets.Sheets.{Sheets}
 
 -- the level of a pair of n states in a sheet, and 0 where either is no state
@@ -12,7 +12,7 @@ unfoldable pub level_in : ℕ → List ℕ → ℕ → ℕ → ℕ
 level_in n levels p q = if nat_lt p n && nat_lt q n then at_pair n levels p q else 0
 
 -- the chart whose words are in a move sheet
-abbrev pub chart_in : MoveSheet → Meaning
+abbrev pub chart_in : LentSheet → Meaning
 chart_in o = sheet_chart o.count o.words.now
 
 abbrev pub chart_on : Sheets → Meaning

@@ -12,8 +12,9 @@ ghost use Rattle.likeness.specs.Sheet.{by_pairs, laid, level_sheet};
 
 use crate::moves::fill_moves;
 use crate::refusal::Refusal;
-use crate::sheets::{MoveSheet, Sheets};
+use crate::sheets::Sheets;
 use charts::chart::Chart;
+use layers::sheet::LentSheet;
 
 // Settles two states of a chart: their depth, which is their level and 0 where they are alike, and the rounds that were run to find it.
 pub fn settle<C: Chart>(
@@ -55,7 +56,7 @@ pub fn settle<C: Chart>(
         return Err(Refusal::ShortSheet);
     }
     fill_moves(chart, moves)?;
-    let moves = MoveSheet {
+    let moves = LentSheet {
         count: n,
         words: moves,
     };
