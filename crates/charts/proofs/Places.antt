@@ -1,5 +1,5 @@
 -- The numbers below a bound, and the elements of a list by their places, that pass a test. Assumes nothing.
-use Rattle.std.proofs.Common.{◌≡◌, ℕ, ◌<◌, Bool, true, false, List, length, is_some, Some, None, Decides, Option, sym, refl, ap, ◌∙◌}
+use Rattle.std.proofs.Common.{◌≡◌, ℕ, zero, suc, ◌<◌, Bool, true, false, ◌||◌, List, length, is_some, Some, None, Decides, Option, sym, refl, ap, ap₂, ◌∙◌, arith}
 use Rattle.std.specs.List.{HoldsAt, AllWithin}
 use Rattle.std.proofs.lemmas.Bool.Decides.{Decides-by_or, Decides-below_or}
 use Rattle.std.proofs.lemmas.Bool.{false≢true}
@@ -12,6 +12,12 @@ use Rattle.charts.specs.Search.{some_below, First}
 pub some_below_decides : (test : ℕ → Bool) (n : ℕ) → Decides (some_below n test) ((k : ℕ) × (k < n) × (test k ≡ true))
 unfolding some_below
 some_below_decides test = Decides-below_or test (λ k. test k ≡ true) (λ n. some_below n test) (λ k. (λ e. e, λ e. e)) refl (λ _. refl)
+
+-- tests that agree below the bound
+pub some_same : (n : ℕ) (f g : ℕ → Bool) → ((k : ℕ) → k < n → f k ≡ g k) → some_below n f ≡ some_below n g
+unfolding some_below
+some_same zero f g same = refl
+some_same (suc n) f g same = ap₂ ◌||◌ (same n (omega arith)) (some_same n f g (λ k h. same k (omega arith)))
 
 module _ {X : Type 0} (test : X → Bool) where
   -- an answer, and none

@@ -1,18 +1,20 @@
 -- Sheets of words: how one is made word by word, and the moves that it has. Assumes nothing.
-use Rattle.std.proofs.Common.{◌≡◌, ℕ, zero, suc, ◌+◌, ◌*◌, ◌/◌, ◌%◌, ◌^◌, ◌<◌, ◌≤◌, Bool, true, false, not, ◌&&◌, ◌||◌, eqb, ltb, ◌⊎◌, List, [], ◌∷◌, ◌++◌, map, length, get_or, sym, refl, ap, ◌∙◌, subst, ap₂, add-one, arith}
+use Rattle.std.proofs.Common.{◌≡◌, ℕ, zero, suc, ◌+◌, ◌*◌, ◌/◌, ◌%◌, ◌^◌, ◌<◌, ◌≤◌, Bool, true, false, not, ◌&&◌, ◌||◌, eqb, ltb, ◌⊎◌, List, [], ◌∷◌, ◌++◌, fold, map, length, get_or, sym, refl, ap, ◌∙◌, subst, ap₂, arith}
 use mathlib.Core.Bool.{or_comm}
 use Rattle.std.specs.List.{range_with_len}
 use Rattle.closure.specs.Closure.{marks}
 use Rattle.charts.specs.Search.{some_below}
 use Rattle.std.proofs.lemmas.Bool.{eq-eqb, ne_eqb, and_from, lt-ltb}
+use Rattle.std.proofs.lemmas.List.Sums.{fold-append}
 use Rattle.std.proofs.lemmas.List.FromFn.{length-map-range_with_len, get_or-map-range_with_len, map-range_with_len_more, fill_by_all}
 use Rattle.std.proofs.lemmas.Nat.{mul-add-lt, div-mul-add, mod-mul-add, div_below, mod_below}
 use Rattle.words.specs.Bits.{bit, word_of}
 use Rattle.words.proofs.Bits.{bit-packed, bit_of_packed, bit-pow, bit_none, packed_is, packed_none, packed_same}
 use Rattle.charts.specs.Meaning.{Meaning, has_move, chart_of}
+use Rattle.charts.proofs.Places.{some_same}
 use Rattle.charts.proofs.Meanings.{count_is, word_inside, word_outside, moves_decides, same_moves}
 use Rattle.std.proofs.lemmas.Bool.Decides.{same_from_decides, Decides-like, Decides-and, Decides-ltb}
-use Rattle.layers.specs.Sheet.{cell, cells, sheet, moves_in, silent_in, move_or_stay, sheet_chart}
+use Rattle.layers.specs.Sheet.{cell, cells, sheet, moves_in, silent_in, move_or_stay, product, sheet_chart}
 use Rattle.layers.proofs.Truth.{and_no_less, or_no_more}
 
 -- a number that is a chart's count is at most 128
@@ -75,23 +77,36 @@ module _ (m : Meaning) (p q w : ℕ) (is : w ≡ m.word p q) where
       packed_is 32 w _ (subst (λ v. v < 2 ^ 32) (sym is) (m.fits p q))
       (λ a _. ap (λ v. bit v a) is ∙ or_no_more (has_move m p a q) (eqb a 0) _ (ne_eqb p q other))
 
--- the words of every label, and of one test more among the numbers below a bound
+-- the word of every label
 pub word_all : (w : ℕ) (f : ℕ → Bool) → w ≡ word_of (λ a. not (bit 0 a)) → ((a : ℕ) → f a ≡ true) → w ≡ word_of f
 word_all w f is all = is ∙ packed_same 32 _ f (λ a _. ap not (bit_none a) ∙ sym (all a))
 
-module _ (test : ℕ → ℕ → Bool) where
-  pub ways_none : 0 ≡ word_of (λ a. some_below 0 (test a))
-  unfolding some_below
-  ways_none = packed_none 32 _ (λ _ _. refl)
+-- a count, and one number more
+range_more : (a n : ℕ) → range_with_len a (suc n) ≡ range_with_len a n ++ (a + n) ∷ []
+range_more a zero = ap (λ k. k ∷ []) (omega arith)
+range_more a (suc n) =
+    ap (λ xs. a ∷ xs) (range_more (a + 1) n)
+    ∙ ap (λ k. a ∷ (range_with_len (a + 1) n ++ k ∷ [])) (omega arith)
 
-  pub ways_more : (r word meet next : ℕ) → word ≡ word_of (λ a. some_below r (test a)) → meet ≡ word_of (λ a. test a r)
-      → next ≡ word_of (λ a. bit word a || bit meet a) → next ≡ word_of (λ a. some_below (r + 1) (test a))
+-- the labels of the words g r, joined over the numbers r below a bound
+module _ (g : ℕ → ℕ) where
+  -- some labels, and those of one word more
+  abbrev pub joined : ℕ → ℕ → ℕ
+  joined labels r = word_of (λ a. bit labels a || bit (g r) a)
+
+  pub joined_more : (labels r word next : ℕ) (rs : List ℕ) → labels ≡ fold joined 0 rs → word ≡ g r
+      → next ≡ word_of (λ a. bit labels a || bit word a) → next ≡ fold joined 0 (rs ++ r ∷ [])
+  joined_more labels r word next rs is word_is next_is =
+      next_is ∙ ap₂ (λ v w. word_of (λ a. bit v a || bit w a)) is word_is ∙ sym (fold-append joined 0 rs (r ∷ []))
+
+  pub labels_joined : (n : ℕ) → fold joined 0 (range_with_len 0 n) ≡ word_of (λ a. some_below n (λ r. bit (g r) a))
   unfolding some_below
-  ways_more r word meet next word_is meet_is next_is =
-      next_is ∙ packed_same 32 _ _ (λ a h.
-      ap₂ (λ b c. b || c) (bit_of_packed 32 word _ word_is a h) (bit_of_packed 32 meet _ meet_is a h)
-      ∙ or_comm (some_below r (test a)) (test a r)
-      ∙ ap (λ k. some_below k (test a)) (sym (add-one r)))
+  labels_joined zero = packed_none 32 _ (λ _ _. refl)
+  labels_joined (suc n) =
+      ap (fold joined 0) (range_more 0 n ∙ ap (λ k. range_with_len 0 n ++ k ∷ []) (omega arith))
+      ∙ fold-append joined 0 (range_with_len 0 n) (n ∷ [])
+      ∙ packed_same 32 _ _ (λ a h.
+      ap (λ b. b || bit (g n) a) (bit_of_packed 32 _ _ (labels_joined n) a h) ∙ or_comm (some_below n (λ r. bit (g r) a)) (bit (g n) a))
 
 -- a mark read from the rows
 pub mark_read : (n : ℕ) (f : ℕ → ℕ → Bool) (rows : List (List Bool)) (p q : ℕ) → n ≤ 128 → p < n → q < n
@@ -155,11 +170,21 @@ pub sheet_told : (n : ℕ) (f : ℕ → ℕ → ℕ → Bool) (words : List ℕ)
 unfolding cells cell
 sheet_told n f words long told = fill_by_all (cell n f) words (n * n) 0 long told
 
--- the labels of a move from p to r in one sheet, and from r to q in another
-pub word_by_way : (n : ℕ) → n ≤ 128 → (first second : List ℕ) (p r q v w : ℕ) → p < n → r < n → q < n
-    → v ≡ (sheet_chart n first).word p r → w ≡ (sheet_chart n second).word r q
-    → word_of (λ a. bit v a && bit w a) ≡ word_of (λ a. moves_in n first p a r && moves_in n second r a q)
-word_by_way n few first second p r q v w hp hr hq v_is w_is =
-    packed_same 32 _ _ (λ a ha. ap₂ ◌&&◌
-    (ap (λ x. bit x a) v_is ∙ sheet_chart_has n few first p a r hp hr ha)
-    (ap (λ x. bit x a) w_is ∙ sheet_chart_has n few second r a q hr hq ha))
+-- the labels of a move from p to some r in one sheet, and from r to q in another
+words_by_way : (n : ℕ) → n ≤ 128 → (first second : List ℕ) (p q : ℕ) → p < n → q < n
+    → word_of (λ a. some_below n (λ r. bit (word_of (λ b. bit ((sheet_chart n first).word p r) b && bit ((sheet_chart n second).word r q) b)) a))
+    ≡ word_of (λ a. product n first second p a q)
+unfolding product
+words_by_way n few first second p q hp hq =
+    packed_same 32 _ _ (λ a ha. some_same n _ _ (λ r hr.
+    bit_of_packed 32 _ _ refl a ha ∙ ap₂ ◌&&◌ (sheet_chart_has n few first p a r hp hr ha) (sheet_chart_has n few second r a q hr hq ha)))
+
+-- the word from p to some r in a sheet of n states, and that from r to q in a sheet of k states
+abbrev pub word_by_way : ℕ → ℕ → List ℕ → List ℕ → ℕ → ℕ → ℕ → ℕ
+word_by_way n k first second p q r = word_of (λ a. bit ((sheet_chart n first).word p r) a && bit ((sheet_chart k second).word r q) a)
+
+pub product_told : (n k : ℕ) → n ≤ 128 → k ≡ n → (first second : List ℕ) (p q : ℕ) → p < n → q < n
+    → fold (joined (word_by_way n k first second p q)) 0 (range_with_len 0 n) ≡ word_of (λ a. product n first second p a q)
+product_told n k few same first second p q hp hq =
+    ap (λ j. fold (joined (word_by_way n j first second p q)) 0 (range_with_len 0 n)) same
+    ∙ labels_joined (word_by_way n n first second p q) n ∙ words_by_way n few first second p q hp hq

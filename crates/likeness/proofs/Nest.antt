@@ -1,50 +1,22 @@
 -- The search for an attack, label by label, target by target, answer by answer. Assumes nothing.
-use Rattle.std.proofs.Common.{◌≡◌, ℕ, zero, suc, ◌+◌, ◌<◌, ◌≤◌, true, ◌||◌, Decides, List, [], ◌∷◌, ◌++◌, fold, sym, refl, ap, ◌∙◌, subst, ap₂, ⊎_elim, add-one, arith}
+use Rattle.std.proofs.Common.{◌≡◌, ℕ, ◌+◌, ◌<◌, ◌≤◌, true, Decides, fold, sym, ◌∙◌, subst, ⊎_elim, arith}
 use Rattle.std.specs.List.{range_with_len}
 use Rattle.std.proofs.lemmas.Bool.{cases_lt}
 use Rattle.std.proofs.lemmas.Bool.Decides.{Decides-at, Decides-like}
-use Rattle.std.proofs.lemmas.List.Sums.{fold-append}
-use Rattle.words.specs.Bits.{bit, word_of}
-use Rattle.words.proofs.Bits.{bit_of_packed, packed_is}
+use Rattle.words.specs.Bits.{bit}
+use Rattle.words.proofs.Bits.{bit_of_packed}
 use Rattle.charts.specs.Meaning.{Meaning, has_move}
-use Rattle.charts.specs.Search.{some_below}
 use Rattle.charts.proofs.Meanings.{move_inside}
 use Rattle.charts.proofs.Places.{some_below_decides}
-use Rattle.layers.proofs.Sheets.{ways_none, ways_more}
+use Rattle.layers.proofs.Sheets.{joined, labels_joined}
 use Rattle.likeness.specs.Attack.{AttackBy}
 use Rattle.likeness.specs.Bisimulation.{Answered}
 
--- a count, and one number more
-range_more : (a n : ℕ) → range_with_len a (suc n) ≡ range_with_len a n ++ (a + n) ∷ []
-range_more a zero = ap (λ k. k ∷ []) (omega arith)
-range_more a (suc n) =
-    ap (λ xs. a ∷ xs) (range_more (a + 1) n)
-    ∙ ap (λ k. a ∷ (range_with_len (a + 1) n ++ k ∷ [])) (omega arith)
-
--- some labels, and those of the word from p to t
-abbrev pub joined : Meaning → ℕ → ℕ → ℕ → ℕ
-joined m p labels t = word_of (λ a. bit labels a || bit (m.word p t) a)
-
-labels_joined : (m : Meaning) (p n : ℕ) → fold (joined m p) 0 (range_with_len 0 n) ≡ word_of (λ a. some_below n (has_move m p a))
-labels_joined m p zero = ways_none (has_move m p)
-labels_joined m p (suc n) =
-    ap (fold (joined m p) 0) (range_more 0 n ∙ ap (λ k. range_with_len 0 n ++ k ∷ []) (omega arith))
-    ∙ fold-append (joined m p) 0 (range_with_len 0 n) (n ∷ [])
-    ∙ ways_more (has_move m p) n _ (m.word p n) _ (labels_joined m p n)
-    (packed_is 32 (m.word p n) (bit (m.word p n)) (m.fits p n) (λ _ _. refl)) refl
-    ∙ ap (λ k. word_of (λ a. some_below k (has_move m p a))) (add-one n)
-
--- one word more
-pub joined_more : (m : Meaning) (p labels t word next : ℕ) (ts : List ℕ) → labels ≡ fold (joined m p) 0 ts → word ≡ m.word p t
-    → next ≡ word_of (λ a. bit labels a || bit word a) → next ≡ fold (joined m p) 0 (ts ++ t ∷ [])
-joined_more m p labels t word next ts is word_is next_is =
-    next_is ∙ ap₂ (λ v w. word_of (λ a. bit v a || bit w a)) is word_is ∙ sym (fold-append (joined m p) 0 ts (t ∷ []))
-
 -- the labels of the words from p to each state, joined, are those by which p moves
-pub labels_told : (m : Meaning) (p n labels : ℕ) → n ≡ m.count → labels ≡ fold (joined m p) 0 (range_with_len 0 n)
+pub labels_told : (m : Meaning) (p n labels : ℕ) → n ≡ m.count → labels ≡ fold (joined (m.word p)) 0 (range_with_len 0 n)
     → (a : ℕ) → a < 32 → Decides (bit labels a) ((t : ℕ) × (has_move m p a t ≡ true))
 labels_told m p n labels all is a ha =
-    Decides-at (bit labels a) _ (bit_of_packed 32 labels _ (is ∙ labels_joined m p n) a ha)
+    Decides-at (bit labels a) _ (bit_of_packed 32 labels _ (is ∙ labels_joined (m.word p) n) a ha)
     (Decides-like _
     (λ h. (h.0, h.2))
     (λ h. let inside = (move_inside m p a h.0 h.1).1 in (h.0, omega arith, h.1))

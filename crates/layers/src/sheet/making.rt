@@ -1,9 +1,9 @@
 // The sheets that a quiet chart is made of.
-ghost use Rattle.std.specs.Prelude.{◌≡◌, ℕ, ◌*◌, ◌/◌, ◌%◌, ◌<◌, ◌≤◌, false, List, [], map, length, IfOk, vec_len, slice_index, slice_index_or};
+ghost use Rattle.std.specs.Prelude.{◌≡◌, ℕ, ◌*◌, ◌/◌, ◌%◌, ◌<◌, ◌≤◌, false, ◌&&◌, List, [], map, length, IfOk, vec_len, slice_index, slice_index_or};
 ghost use Rattle.std.specs.List.{range_with_len};
 ghost use Rattle.closure.specs.Closure.{reaches, marks};
-ghost use Rattle.words.specs.Bits.{word_of};
-ghost use Rattle.layers.specs.Sheet.{silent_in, move_or_stay, reach_in, product};
+ghost use Rattle.words.specs.Bits.{bit, word_of};
+ghost use Rattle.layers.specs.Sheet.{sheet_chart, silent_in, move_or_stay, reach_in, product};
 ghost use Rattle.layers.specs.Made.{IsSheet};
 
 use super::Sheet;
@@ -75,12 +75,16 @@ impl Sheet {
         requires q_below { q < self.now.count }
         ensures value { result ≡ word_of (λ a. product self.now.count self.now.words.items second.now.words.items p a q) }
     {
-        // Tried as a chain that folds: the check does not find what it gives.
-        let mut labels = 0;
-        for r in 0..self.count {
-            labels = union(labels, intersection(self.word(p, r), second.word(r, q)));
-        }
-        labels
+        (0..self.count).fold(0, |labels, r| {
+            union(labels, self.labels_through(second, p, r, q))
+        })
+    }
+
+    // The labels by which p moves in this sheet to r, and r in the second to q.
+    fn labels_through(&self, second: &Sheet, p: usize, r: usize, q: usize) -> u32
+        ensures value { result ≡ word_of (λ a. bit ((sheet_chart self.now.count self.now.words.items).word p r) a && bit ((sheet_chart second.now.count second.now.words.items).word r q) a) }
+    {
+        intersection(self.word(p, r), second.word(r, q))
     }
 }
 
