@@ -35,6 +35,7 @@ impl Chart for ListChart<'_> {
         self.count
     }
 
+    #[tactic(auto, using(crate::proofs::Meanings::word_inside, crate::proofs::Meanings::word_outside))]
     fn word(&self, p: usize, q: usize) -> u32 {
         if p >= self.count || q >= self.count {
             return 0;

@@ -16,6 +16,7 @@ const LABELS: u8 = 32;
 
 impl MoveList<'_> {
     // Refuses the list where it has over 128 states, a state not below its count, a label over 31 or a repeated move.
+    #[tactic(auto, unfolding(crate::specs::MoveList::faulty))]
     pub fn check(&self) -> Result<(), Refusal>
         ensures answer { refusal_told told_by result ≡ list_refusal self.now.count self.now.moves.now }
         ensures refused_exactly_for_a_fault { IsErr result ↔ Fault self.now.count self.now.moves.now }
