@@ -6,7 +6,7 @@ ghost use Rattle.charts.specs.Search.{First};
 pub fn first_same<T: Eq>(records: &[T], wanted: &T) -> Option<usize>
     ensures value { result ≡ position (λ x. T.eq x wanted.now) records.now }
     ensures first { First (λ x. T.eq x wanted.now) records.now result }
-    ensures by_sameness_alone { (y : T) → T.eq y wanted.now ≡ true → position (λ x. T.eq x wanted.now) records.now ≡ position (λ x. T.eq x y) records.now }
+    ensures by_sameness_alone { (y : T) → T.eq y wanted.now ≡ true → result ≡ position (λ x. T.eq x y) records.now }
 {
     records.iter().position(|record| record == wanted)
 }
