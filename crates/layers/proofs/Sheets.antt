@@ -1,10 +1,11 @@
 -- Sheets of words: how one is made word by word, and the moves that it has. Assumes nothing.
-use Rattle.std.proofs.Common.{◌≡◌, ℕ, zero, suc, ◌+◌, ◌*◌, ◌/◌, ◌%◌, ◌^◌, ◌<◌, ◌≤◌, Bool, true, false, not, ◌&&◌, ◌||◌, eqb, ltb, ◌⊎◌, List, [], ◌∷◌, ◌++◌, fold, map, length, get_or, sym, refl, ap, ◌∙◌, subst, ap₂, arith}
+use Rattle.std.proofs.Common.{◌≡◌, ℕ, zero, suc, ◌+◌, ◌*◌, ◌/◌, ◌%◌, ◌^◌, ◌<◌, ◌≤◌, Bool, true, false, not, ◌&&◌, ◌||◌, eqb, ltb, ◌⊎◌, ⊎_elim, inl, inr, None, unwrap_or, slice_get, List, [], ◌∷◌, ◌++◌, fold, map, length, get_or, sym, refl, ap, ◌∙◌, subst, ap₂, arith}
 use mathlib.Core.Bool.{or_comm}
 use Rattle.std.specs.List.{range_with_len}
 use Rattle.closure.specs.Closure.{marks}
 use Rattle.charts.specs.Search.{some_below}
-use Rattle.std.proofs.lemmas.Bool.{eq-eqb, ne_eqb, and_from, lt-ltb}
+use Rattle.std.proofs.lemmas.Option.{unwrap_or-slice_get}
+use Rattle.std.proofs.lemmas.Bool.{cases_lt, cond-true, cond-false, and_left, and_right, le-ltb, eq-eqb, ne_eqb, and_from, lt-ltb}
 use Rattle.std.proofs.lemmas.List.Sums.{fold-append}
 use Rattle.std.proofs.lemmas.List.FromFn.{length-map-range_with_len, get_or-map-range_with_len, map-range_with_len_more, fill_by_all}
 use Rattle.std.proofs.lemmas.Nat.{mul-add-lt, div-mul-add, mod-mul-add, div_below, mod_below}
@@ -14,7 +15,7 @@ use Rattle.charts.specs.Meaning.{Meaning, has_move, chart_of}
 use Rattle.charts.proofs.Places.{some_same}
 use Rattle.charts.proofs.Meanings.{count_is, word_inside, word_outside, moves_decides, same_moves}
 use Rattle.std.proofs.lemmas.Bool.Decides.{same_from_decides, Decides-like, Decides-and, Decides-ltb}
-use Rattle.layers.specs.Sheet.{cell, cells, sheet, moves_in, silent_in, move_or_stay, product, sheet_chart}
+use Rattle.layers.specs.Sheet.{cell, cells, sheet, moves_in, silent_in, move_or_stay, product, sheet_chart, value_at}
 use Rattle.layers.proofs.Truth.{and_no_less, or_no_more}
 
 -- a number that is a chart's count is at most 128
@@ -148,6 +149,20 @@ module _ (n : ℕ) (few : n ≤ 128) (words : List ℕ) where
   unfolding sheet_chart moves_in
   sheet_chart_inside p q w hp hq fits is =
       packed_is 32 w _ fits (λ a _. ap (λ v. bit v a) is) ∙ sym (word_inside n few (moves_in n words) p q hp hq)
+
+  none : (p q w : ℕ) → w ≡ unwrap_or (value_at n words p q) 0 → (ltb p n && ltb q n) ≡ false → w ≡ 0
+  none p q w is out = is ∙ ap (λ o. unwrap_or o 0) (cond-false (ltb p n && ltb q n) (slice_get words (p * n + q)) None out)
+
+  -- whatever numbers are asked for
+  pub sheet_chart_at : (p q w : ℕ) → w < 2 ^ 32 → w ≡ unwrap_or (value_at n words p q) 0 → w ≡ (sheet_chart n words).word p q
+  sheet_chart_at p q w fits is = ⊎_elim
+      (λ hp. ⊎_elim
+      (λ hq. sheet_chart_inside p q w hp hq fits
+      (is ∙ ap (λ o. unwrap_or o 0) (cond-true (ltb p n && ltb q n) _ None (and_from _ _ (lt-ltb p n hp) (lt-ltb q n hq))) ∙ unwrap_or-slice_get words (p * n + q) 0))
+      (λ out. none p q w is (and_right _ _ (le-ltb q n out)) ∙ sheet_chart_outside p q (inr out))
+      (cases_lt q n))
+      (λ out. none p q w is (and_left _ _ (le-ltb p n out)) ∙ sheet_chart_outside p q (inl out))
+      (cases_lt p n)
 
   -- label by label: what the sheet has, for states
   pub sheet_chart_has : (p a q : ℕ) → p < n → q < n → a < 32 → has_move (sheet_chart n words) p a q ≡ moves_in n words p a q

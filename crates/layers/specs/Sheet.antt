@@ -1,11 +1,15 @@
 -- Sheets of words: the moves among n states kept as a list of n × n words, the word from p to q at p × n + q.
 -- Assumes nothing.
-use Rattle.std.specs.Prelude.{ℕ, ◌+◌, ◌*◌, ◌/◌, ◌%◌, Bool, ◌&&◌, ◌||◌, List, map, ◌==◌, nat_lt, slice_index}
+use Rattle.std.specs.Prelude.{ℕ, ◌+◌, ◌*◌, ◌/◌, ◌%◌, Bool, ◌&&◌, ◌||◌, if◌then◌else◌, List, map, None, Option, ◌==◌, nat_lt, slice_get, slice_index}
 use Rattle.std.specs.List.{range_with_len}
 use Rattle.words.specs.Bits.{bit, word_of}
 use Rattle.closure.specs.Closure.{reaches}
 use Rattle.charts.specs.Meaning.{Meaning, has_move, chart_of}
 use Rattle.charts.specs.Search.{some_below}
+
+-- the value of the pair in a sheet of n × n values, where both are states
+abbrev pub value_at : {X : Type 0} → ℕ → List X → ℕ → ℕ → Option X
+value_at n values p q = if nat_lt p n && nat_lt q n then slice_get values (p * n + q) else None
 
 -- the word at place i of the sheet in which p moves by a to q exactly when f p a q
 unfoldable pub cell : ℕ → (ℕ → ℕ → ℕ → Bool) → ℕ → ℕ

@@ -1,6 +1,6 @@
 // Sheets of words: the moves among n states as n × n words, the word from p to q at p × n + q.
 ghost use Rattle.std.specs.Prelude.{◌≡◌, ◌*◌, ◌≤◌, length, vec_len};
-ghost use Rattle.layers.specs.Sheet.{sheet_chart, silent_in};
+ghost use Rattle.layers.specs.Sheet.{sheet_chart, silent_in, value_at};
 
 use charts::chart::Chart;
 use closure::Steps;
@@ -8,29 +8,39 @@ use words::contains;
 
 mod making;
 
-// The chart whose words are in a lent sheet. A longer sheet has a tail, which means nothing.
-#[derive(Clone, Copy)]
-pub struct LentSheet<'a> {
+// A sheet that is lent: a value for each pair of so many states. A longer sheet has a tail, which means nothing.
+#[derive(Drop)]
+pub struct LentSheet<'a, T> {
     pub count: usize,
-    pub words: &'a [u32],
+    pub values: &'a [T],
     ghost few: { count ≤ 128 },
-    ghost suffices: { count * count ≤ length words.now },
+    ghost suffices: { count * count ≤ length values.now },
 }
 
-impl Chart for LentSheet<'_> {
-    ghost meaning = { λ s. sheet_chart s.count s.words.now };
+impl<T: Copy> LentSheet<'_, T> {
+    // The value of the pair, where both are states.
+    pub fn at(&self, p: usize, q: usize) -> Option<T>
+        ensures value { result ≡ value_at self.now.count self.now.values.now p q }
+    {
+        if p >= self.count || q >= self.count {
+            return None;
+        }
+        self.values.get(p * self.count + q).copied()
+    }
+}
+
+// The chart whose words are in the sheet.
+impl Chart for LentSheet<'_, u32> {
+    ghost meaning = { λ s. sheet_chart s.count s.values.now };
 
     #[tactic(auto, using(crate::proofs::Sheets::sheet_chart_count))]
     fn count(&self) -> usize {
         self.count
     }
 
-    #[tactic(auto, using(crate::proofs::Sheets::sheet_chart_inside, crate::proofs::Sheets::sheet_chart_outside))]
+    #[tactic(auto, using(crate::proofs::Sheets::sheet_chart_at))]
     fn word(&self, p: usize, q: usize) -> u32 {
-        if p >= self.count || q >= self.count {
-            return 0;
-        }
-        self.words[p * self.count + q]
+        self.at(p, q).unwrap_or(0)
     }
 }
 
@@ -44,13 +54,13 @@ pub(crate) struct Sheet {
 }
 
 impl Sheet {
-    fn lent(&self) -> LentSheet<'_>
+    fn lent(&self) -> LentSheet<'_, u32>
         ensures count { result.count ≡ self.now.count }
-        ensures words { result.words.now ≡ self.now.words.items }
+        ensures words { result.values.now ≡ self.now.words.items }
     {
         LentSheet {
             count: self.count,
-            words: self.words.as_slice(),
+            values: self.words.as_slice(),
         }
     }
 }

@@ -1,8 +1,9 @@
 -- Values laid over a list from its first place on, and the chart of a move sheet that is filled so. Assumes nothing.
-use Rattle.std.proofs.Common.{◌≡◌, ℕ, ◌+◌, ◌*◌, ◌/◌, ◌%◌, ◌<◌, ◌≤◌, List, ◌++◌, ◌&&◌, ltb, ◌⊎◌, length, get_or, drop, sym, ap, ◌∙◌, subst, inl, inr, ⊎_elim, arith}
+use Rattle.std.proofs.Common.{◌≡◌, ℕ, ◌+◌, ◌*◌, ◌/◌, ◌%◌, ◌<◌, List, ◌++◌, ◌&&◌, ltb, None, unwrap_or, length, get_or, drop, sym, ap, ◌∙◌, subst, inl, inr, ⊎_elim, arith}
 use Rattle.std.proofs.lemmas.List.{get_or_append_left, drop_at}
 use Rattle.std.proofs.lemmas.List.FromFn.{length-map-range_with_len, get_or-map-range_with_len, fill_by_all}
-use Rattle.std.proofs.lemmas.Bool.{cases_lt, cond-true, cond-false, and_from, and_left, and_right, lt-ltb, le-ltb}
+use Rattle.std.proofs.lemmas.Option.{unwrap_or-slice_get}
+use Rattle.std.proofs.lemmas.Bool.{cases_lt, cond-true, and_from, lt-ltb}
 use Rattle.charts.specs.Meaning.{Meaning}
 use Rattle.charts.proofs.Meanings.{same_words}
 use Rattle.layers.specs.Sheet.{sheet_chart}
@@ -47,15 +48,10 @@ laid_again n f g d =
     ∙ ap (λ xs. by_pairs n f ++ xs) (drop_at (by_pairs n g) (drop (n * n) d) (n * n) (pairs_long n g))
     ∙ sym (laid_is n f d)
 
--- the level that is read of a pair of states, and of others
+-- the level that is read of a pair of states
 pub level_inside : (n : ℕ) (levels : List ℕ) (p q : ℕ) → p < n → q < n → level_in n levels p q ≡ at_pair n levels p q
-unfolding level_in
-level_inside n levels p q hp hq = cond-true (ltb p n && ltb q n) _ 0 (and_from _ _ (lt-ltb p n hp) (lt-ltb q n hq))
-
-pub level_outside : (n : ℕ) (levels : List ℕ) (p q : ℕ) → (n ≤ p) ⊎ ((p < n) × (n ≤ q)) → level_in n levels p q ≡ 0
-unfolding level_in
-level_outside n levels p q (inl out) = cond-false _ _ _ (and_left _ _ (le-ltb p n out))
-level_outside n levels p q (inr (_, out)) = cond-false _ _ _ (and_right _ _ (le-ltb q n out))
+level_inside n levels p q hp hq =
+    ap (λ o. unwrap_or o 0) (cond-true (ltb p n && ltb q n) _ None (and_from _ _ (lt-ltb p n hp) (lt-ltb q n hq))) ∙ unwrap_or-slice_get levels (p * n + q) 0
 
 -- the level of a pair of states, where the levels up to r are laid over another sheet
 pub level_laid : (n : ℕ) (m : Meaning) → n ≡ m.count → (r : ℕ) (d : List ℕ) (p q : ℕ) → p < n → q < n
@@ -65,8 +61,8 @@ level_laid n m n_is r d p q hp hq =
     ∙ ap (λ k. at_pair k (laid (level_sheet m r) d) p q) n_is ∙ at_laid m.count (level_to m r) d p q (omega arith) (omega arith)
 
 -- a move sheet that is kept is of the same chart
-pub count_kept : (o kept : LentSheet) → o ≡ kept → o.count ≡ (chart_in kept).count
-count_kept o kept same = ap (λ s. s.count) same ∙ sym (sheet_chart_count kept.count kept.few kept.words.now)
+pub count_kept : (o kept : LentSheet ℕ) → o ≡ kept → o.count ≡ (chart_in kept).count
+count_kept o kept same = ap (λ s. s.count) same ∙ sym (sheet_chart_count kept.count kept.few kept.values.now)
 
 -- the chart of a filled move sheet is the chart
 module _ (m : Meaning) (n : ℕ) (n_is : n ≡ m.count) (d : List ℕ) where

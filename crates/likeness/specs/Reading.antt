@@ -1,19 +1,18 @@
 -- What the attack test reads: a move sheet and a level sheet of so many states.
 -- Assumes nothing.
-use Rattle.std.specs.Prelude.{◌≡◌, ℕ, ◌&&◌, if◌then◌else◌, List, nat_lt}
+use Rattle.std.specs.Prelude.{◌≡◌, ℕ, List, unwrap_or}
 use Rattle.charts.specs.Meaning.{Meaning}
-use Rattle.layers.specs.Sheet.{sheet_chart}
-use Rattle.likeness.specs.Sheet.{at_pair}
+use Rattle.layers.specs.Sheet.{sheet_chart, value_at}
 use Rattle.layers.specs.declared.sheet.LentSheet.{LentSheet}
 use Rattle.likeness.specs.declared.sheets.Sheets.{Sheets}
 
 -- the level of a pair of n states in a sheet, and 0 where either is no state
-unfoldable pub level_in : ℕ → List ℕ → ℕ → ℕ → ℕ
-level_in n levels p q = if nat_lt p n && nat_lt q n then at_pair n levels p q else 0
+abbrev pub level_in : ℕ → List ℕ → ℕ → ℕ → ℕ
+level_in n levels p q = unwrap_or (value_at n levels p q) 0
 
 -- the chart whose words are in a move sheet
-abbrev pub chart_in : LentSheet → Meaning
-chart_in o = sheet_chart o.count o.words.now
+abbrev pub chart_in : LentSheet ℕ → Meaning
+chart_in o = sheet_chart o.count o.values.now
 
 abbrev pub chart_on : Sheets → Meaning
 chart_on s = chart_in s.moves

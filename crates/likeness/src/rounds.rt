@@ -58,7 +58,7 @@ pub fn settle<C: Chart>(
     fill_moves(chart, moves)?;
     let moves = LentSheet {
         count: n,
-        words: moves,
+        values: moves,
     };
     let mut sheets = Sheets { moves, levels };
     sheets.run_rounds(p, q, limit)

@@ -6,7 +6,7 @@ use layers::sheet::LentSheet;
 // A filled move sheet and a level sheet for its states.
 #[derive(Drop)]
 pub(crate) struct Sheets<'m, 'l> {
-    pub(crate) moves: LentSheet<'m>,
+    pub(crate) moves: LentSheet<'m, u32>,
     pub(crate) levels: &'l mut [u8],
     ghost levels_suffice: { moves.count * moves.count ≤ length levels.now },
 }
@@ -15,13 +15,13 @@ impl Sheets<'_, '_> {
     ghost use Rattle.likeness.specs.Reading.{levels_on};
 
     // The level of the pair, and 0 where either is no state.
-    #[tactic(auto, using(crate::proofs::Laying::level_inside, crate::proofs::Laying::level_outside))]
     pub(crate) fn level_of(&self, p: usize, q: usize) -> u8
         ensures value { result ≡ levels_on self.now p q }
     {
-        if p >= self.moves.count || q >= self.moves.count {
-            return 0;
-        }
-        self.levels[p * self.moves.count + q]
+        let levels = LentSheet {
+            count: self.moves.count,
+            values: &*self.levels,
+        };
+        levels.at(p, q).unwrap_or(0)
     }
 }

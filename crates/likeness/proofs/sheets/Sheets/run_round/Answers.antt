@@ -1,4 +1,4 @@
-use Rattle.std.proofs.Common.{◌+◌, ◌/◌, ◌%◌, ◌*◌, ◌<◌, Bool, sym, refl, subst, subst₂, add-one, arith}
+use Rattle.std.proofs.Common.{ℕ, ◌+◌, ◌/◌, ◌%◌, ◌*◌, ◌<◌, Bool, sym, refl, subst, subst₂, add-one, arith}
 use Rattle.std.proofs.lemmas.Bool.{iff_false}
 use Rattle.layers.specs.declared.sheet.LentSheet.{LentSheet}
 use Rattle.likeness.specs.declared.sheets.Sheets.{Sheets}
@@ -29,7 +29,7 @@ loop-i-preserved c =
       same_sheets : SameSheets start s;
     } in
     let within : i < n * n = omega arith in
-    let under : LentSheet → Type 0 =
+    let under : LentSheet ℕ → Type 0 =
     λ o. Attack (chart_in o) (level_in o.count c.loop-i.self.levels.now) (c.args.rounds + 1) (i / n) (i % n) in
     elim c.if-self-i-eq0.branch [
       | then-self-i-eq0+then-has_attack w ↦ subst₂ next (sym w.self-is) (sym w.given-is) (record {
