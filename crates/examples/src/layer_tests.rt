@@ -4,6 +4,7 @@ use charts::chart::Chart;
 use charts::move_list::MoveList;
 use layers::hide::Hide;
 use layers::quiet::Quiet;
+use layers::sheet::LentSheet;
 use std::test::Fail;
 
 #[test]
@@ -92,4 +93,23 @@ fn the_quiet_chart_of_a_refused_list_is_empty(rt: HostRuntime) -> Result<(), Fai
     assert_eq!(rt; quiet.count(), 0);
     assert_eq!(rt; quiet.word(0, 0), 0);
     Ok(())
+}
+
+#[test]
+fn a_lent_sheet_is_read_by_place(rt: HostRuntime) {
+    let words = [1u32, 2, 4, 8, 16];
+    let sheet = LentSheet {
+        count: 2,
+        values: &words,
+    };
+    assert_eq!(rt; sheet.count(), 2);
+    assert_eq!(rt; sheet.word(0, 1), 2);
+    assert_eq!(rt; sheet.word(1, 0), 4);
+    assert_eq!(rt; sheet.word(1, 2), 0);
+    assert_eq!(rt; sheet.at(2, 0), None);
+    let levels = LentSheet {
+        count: 2,
+        values: &[0u8, 3, 5, 0],
+    };
+    assert_eq!(rt; levels.at(0, 1), Some(3));
 }

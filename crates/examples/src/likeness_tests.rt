@@ -187,3 +187,13 @@ fn a_silent_loop_is_weakly_like_a_stop(rt: HostRuntime) -> Result<(), Fail> {
     assert_eq!(rt; weak_depth(rt.alloc(), &list.chart(), 0, 1)?, 0);
     Ok(())
 }
+
+#[test]
+fn a_refusal_has_its_number_and_its_text(rt: HostRuntime) -> Result<(), Fail> {
+    assert_eq!(rt; u8::from(Refusal::NoSuchState), 11);
+    assert_eq!(rt; u8::from(Refusal::LimitTooSmall), 16);
+    let refusal = Refusal::ShortSheet;
+    let text = format!(in rt.alloc(); "{refusal}")?;
+    assert_eq!(rt; text.as_str(), "refused, number 12");
+    Ok(())
+}
