@@ -17,6 +17,7 @@ use charts::chart::Chart;
 use layers::sheet::LentSheet;
 
 // Settles two states of a chart: their depth, which is their level and 0 where they are alike, and the rounds that were run to find it.
+// Both are plain numbers, since the format of the answer is fixed so.
 pub fn settle<C: Chart>(
     chart: &C,
     p: usize,

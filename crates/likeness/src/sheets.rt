@@ -7,6 +7,7 @@ use layers::sheet::LentSheet;
 #[derive(Drop)]
 pub(crate) struct Sheets<'m, 'l> {
     pub(crate) moves: LentSheet<'m, u32>,
+    // A byte for each pair, 0 for no level: the format of a lent sheet is fixed so.
     pub(crate) levels: &'l mut [u8],
     ghost levels_suffice: { moves.count * moves.count ≤ length levels.now },
 }
