@@ -3,7 +3,7 @@ use Rattle.std.proofs.Common.{◌≡◌, ℕ, zero, suc, ◌-◌, ◌<◌, ◌�
 use Rattle.std.specs.List.{HoldsAt, AllWithin, ContainsAt}
 use Rattle.std.proofs.ByRecursion.{has_get_or}
 use Rattle.std.proofs.lemmas.List.{length-take, get_or-take, get_or_default}
-use Rattle.std.proofs.lemmas.Bool.{or_cases, or_left, or_right, leb-true, le-leb, cases_Bool, both_ways}
+use Rattle.std.proofs.lemmas.Bool.{or_cases, or_left, or_right, leb-true, le-leb, false_from_ne_true, both_ways}
 use Rattle.std.proofs.lemmas.Bool.Decides.{Decides-or, Decides-like, Decides-ltb}
 use Rattle.std.specs.List.{list_any}
 use Rattle.charts.specs.Search.{First}
@@ -32,11 +32,9 @@ repeats_at (m ∷ ms) (suc i) (suc j) lt within eq = or_right _ _ (repeats_at ms
 -- no move is the same as one before it
 pub repeats_none : (ms : List Move) → ((j : ℕ) (d : Move) → j < length ms → AllWithin (λ m. same_move m (get_or ms j d) ≡ false) ms 0 j)
     → repeats ms ≡ false
-repeats_none ms apart = ⊎_elim
-    (λ e. let f = repeated ms e in let d = move 0 0 0 in
-    absurd (both_ways _ (apart f.1 d f.3 f.0 d (omega arith) f.2) ((same_decides _ _).1 (f.4 d))))
-    (λ e. e)
-    (cases_Bool (repeats ms))
+repeats_none ms apart = false_from_ne_true (repeats ms) (λ e.
+    let f = repeated ms e in let d = move 0 0 0 in
+    both_ways _ (apart f.1 d f.3 f.0 d (omega arith) f.2) ((same_decides _ _).1 (f.4 d)))
 
 -- what a search for the move at i among the moves before it tells
 module _ (ms : List Move) (i : ℕ) (d : Move) (r : Option ℕ) (within : i < length ms)

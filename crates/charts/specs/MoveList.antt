@@ -64,7 +64,7 @@ list_chart count moves = chart_of (cond (faulty count moves) 0 count) (listed mo
 
 -- the chart that a list chart stands for
 abbrev pub stands_for : ListChart → Meaning
-stands_for c = chart_of c.count (listed c.moves.now)
+stands_for c = chart_of c.list.count (listed c.list.moves.now)
 
 -- a chart has exactly the moves of a list that is not refused
 abbrev pub MovesAsListed : Meaning → ℕ → List Move → Type 0

@@ -22,7 +22,6 @@ pub struct MoveList<'a> {
 // The chart of a move list: it has the list's count, or 0 where the list is refused.
 #[derive(Clone, Copy)]
 pub struct ListChart<'a> {
-    count: usize,
-    moves: &'a [Move],
-    ghost few: { count ≤ 128 },
+    list: MoveList<'a>,
+    ghost few: { list.count ≤ 128 },
 }

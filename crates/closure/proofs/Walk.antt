@@ -8,8 +8,9 @@ use Rattle.std.proofs.lemmas.Bool.Decides.{same_from_decides}
 use Rattle.closure.specs.Closure.{Reached, stays, goes_on, reaches, marks}
 use Rattle.closure.proofs.Paths.{reaches_decides}
 
--- what holds of the marks throughout
+-- what holds throughout, of the count and of the marks
 pub record Walked (n : ℕ) (step : ℕ → ℕ → Bool) (start : ℕ) (seen done : List Bool) : Type 0 where
+  pub few : n ≤ 128
   pub all_seen : length seen ≡ 128
   pub all_done : length done ≡ 128
   -- the start is seen
@@ -29,10 +30,11 @@ none_marked q e = ⊎_elim
     (λ past. both_ways _ (get_or_past unmarked q false past) e)
     (cases_lt q 128)
 
-module _ (n : ℕ) (few : n ≤ 128) (step : ℕ → ℕ → Bool) (start : ℕ) where
+module _ (n : ℕ) (step : ℕ → ℕ → Bool) (start : ℕ) where
   -- with a start below n, and with another
-  pub walk_begins : (seen : List Bool) → start < n → seen ≡ set unmarked start true → Walked n step start seen unmarked
-  walk_begins seen below is = record {
+  pub walk_begins : (seen : List Bool) → n ≤ 128 → start < n → seen ≡ set unmarked start true → Walked n step start seen unmarked
+  walk_begins seen few below is = record {
+    few = few;
     all_seen = ap length is ∙ length-set unmarked start true;
     all_done = refl;
     begins = λ _. ap (λ s. get_or s start false) is ∙ get_or-set_same unmarked start true false (omega arith);
@@ -43,8 +45,9 @@ module _ (n : ℕ) (few : n ≤ 128) (step : ℕ → ℕ → Bool) (start : ℕ)
     closed = λ r q e _ _. absurd (none_marked r e);
   }
 
-  pub walk_begins_nowhere : (seen : List Bool) → n ≤ start → seen ≡ unmarked → Walked n step start seen unmarked
-  walk_begins_nowhere seen past is = record {
+  pub walk_begins_nowhere : (seen : List Bool) → n ≤ 128 → n ≤ start → seen ≡ unmarked → Walked n step start seen unmarked
+  walk_begins_nowhere seen few past is = record {
+    few = few;
     all_seen = ap length is;
     all_done = refl;
     begins = λ below. absurd (omega arith);
@@ -59,6 +62,7 @@ module _ (n : ℕ) (few : n ≤ 128) (step : ℕ → ℕ → Bool) (start : ℕ)
   walk_goes_on seen done after p walked here long marked =
       let kept : (q : ℕ) → get_or seen q false ≡ true → get_or after q false ≡ true = λ q e. marked q ∙ or_left (get_or seen q false) _ e in
       record {
+        few = walked.few;
         all_seen = long;
         all_done = length-set done p true ∙ walked.all_done;
         begins = λ below. kept start (walked.begins below);

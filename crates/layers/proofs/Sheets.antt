@@ -179,11 +179,11 @@ module _ (n : ℕ) (few : n ≤ 128) (words : List ℕ) where
       (λ h. ((h.0, h.1), h.3))
       (Decides-and _ _ (Decides-and _ _ (Decides-ltb p n) (Decides-ltb q n)) (λ e. e, λ e. e)))
 
--- a list of n × n words that are made of their places is a sheet
-pub sheet_told : (n : ℕ) (f : ℕ → ℕ → ℕ → Bool) (words : List ℕ) → length words ≡ n * n
+-- a list of k × k words that are made of their places, where k is n, is a sheet of n states
+pub sheet_told : (k n : ℕ) → k ≡ n → (f : ℕ → ℕ → ℕ → Bool) {len : ℕ} (words : List ℕ) → len ≡ length words → len ≡ k * k
     → ((i : ℕ) → i < n * n → get_or words i 0 ≡ word_of (λ a. f (i / n) a (i % n))) → words ≡ sheet n f
 unfolding cells cell
-sheet_told n f words long told = fill_by_all (cell n f) words (n * n) 0 long told
+sheet_told k n same f words is long told = fill_by_all (cell n f) words (n * n) 0 (sym is ∙ long ∙ ap (λ j. j * j) same) told
 
 -- the labels of a move from p to some r in one sheet, and from r to q in another
 words_by_way : (n : ℕ) → n ≤ 128 → (first second : List ℕ) (p q : ℕ) → p < n → q < n

@@ -81,6 +81,7 @@ impl Chart for Sheet {
 impl Steps for Sheet {
     ghost step = { λ s. silent_in s.count s.words.items };
 
+    #[tactic(auto, using(crate::proofs::Sheets::silent_told))]
     fn has_step(&self, p: usize, q: usize) -> bool {
         contains(self.word(p, q), 0)
     }

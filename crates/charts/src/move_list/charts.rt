@@ -21,8 +21,7 @@ impl<'a> MoveList<'a> {
             Err(_) => 0,
         };
         ListChart {
-            count,
-            moves: self.moves,
+            list: MoveList { count, ..self },
         }
     }
 }
@@ -32,15 +31,15 @@ impl Chart for ListChart<'_> {
 
     #[tactic(auto, using(crate::proofs::Meanings::count_is))]
     fn count(&self) -> usize {
-        self.count
+        self.list.count
     }
 
     #[tactic(auto, using(crate::proofs::Meanings::word_inside, crate::proofs::Meanings::word_outside))]
     fn word(&self, p: usize, q: usize) -> u32 {
-        if p >= self.count || q >= self.count {
+        if p >= self.list.count || q >= self.list.count {
             return 0;
         }
-        labels_between(self.moves, p, q)
+        labels_between(self.list.moves, p, q)
     }
 }
 

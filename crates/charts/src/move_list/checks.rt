@@ -47,6 +47,7 @@ fn has_bad_move(moves: &[Move], count: usize) -> bool
 }
 
 // Some move is the same as one before it.
+#[tactic(auto, using(crate::proofs::Faults::repeats_none, crate::proofs::Faults::found_before), unfolding(crate::specs::MoveList::same_move))]
 fn has_repeat(moves: &[Move]) -> bool
     ensures value { result ≡ repeats moves.now }
 {

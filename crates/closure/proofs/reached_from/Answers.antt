@@ -8,23 +8,19 @@ pub loop-p-init : goal.loop-p-init
 loop-p-init g c =
     let few : c.min-n.result ≤ 128 = omega arith in
     elim c.if-start-n.branch [
-      | then-start-n w ↦ walk_begins _ few _ _ _ w.if-start-n.true w.seen-is
-      | else-start-n w ↦ walk_begins_nowhere _ few _ _ _ w.if-start-n.false w.seen-is
+      | then-start-n w ↦ walk_begins _ _ _ _ few w.if-start-n.true w.seen-is
+      | else-start-n w ↦ walk_begins_nowhere _ _ _ _ few w.if-start-n.false w.seen-is
     ]
 
 pub loop-p-preserved : goal.loop-p-preserved
-loop-p-preserved g c =
-    let few : c.min-n.result ≤ 128 = omega arith in
-    walk_goes_on _ few _ _ _ _ _ _ c.loop-p.invariant c.in-Some.ensures.cases.1 c.type_inv.seen c.mark_targets.ensures.marked
+loop-p-preserved g c = walk_goes_on _ _ _ _ _ _ _ c.loop-p.invariant c.in-Some.ensures.cases.1 c.type_inv.seen c.mark_targets.ensures.marked
 
 pub returns-clause-value : goal.returns-clause-value
 returns-clause-value g c =
-    let few : c.min-n.result ≤ 128 = omega arith in
-    walk_ends _ few _ _ _ _ c.loop-p.invariant c.in_default.ensures.cases
+    walk_ends _ _ _ _ _ c.loop-p.invariant c.in_default.ensures.cases
     ∙ ap (λ n. marks (reaches n (g.S.Steps.step c.args.steps.now) c.args.start)) c.min-n.ensures
 
 pub returns-clause-marks_what_is_reached : goal.returns-clause-marks_what_is_reached
 returns-clause-marks_what_is_reached g c =
-    let few : c.min-n.result ≤ 128 = omega arith in
     subst (λ n. (q : ℕ) → Decides (get_or c.loop-p.seen q false) (Reached n (g.S.Steps.step c.args.steps.now) c.args.start q))
-    c.min-n.ensures (walk_decides _ few _ _ _ _ c.loop-p.invariant c.in_default.ensures.cases)
+    c.min-n.ensures (walk_decides _ _ _ _ _ c.loop-p.invariant c.in_default.ensures.cases)

@@ -18,9 +18,7 @@ impl Sheet {
     pub(crate) fn of_moves<C: Chart>(heap: Global, chart: &C) -> Result<Sheet, AllocError>
         ensures made { IfOk result (IsSheet (C.Chart.meaning chart.now).count (move_or_stay (C.Chart.meaning chart.now))) }
     {
-        let count = chart.count();
-        let words = words_told(heap, count, |p, q| word_or_stay(chart, p, q))?;
-        Ok(Sheet { count, words })
+        Sheet::told(heap, chart.count(), |p, q| word_or_stay(chart, p, q))
     }
 
     // The sheet with every label from p to q where p reaches q by zero or more silent moves of this one.
@@ -29,11 +27,7 @@ impl Sheet {
     {
         let marks = self.marks_of_reach(heap)?;
         let rows = marks.as_slice();
-        let words = words_told(heap, self.count, |p, q| word_marked(rows, p, q))?;
-        Ok(Sheet {
-            count: self.count,
-            words,
-        })
+        Sheet::told(heap, self.count, |p, q| word_marked(rows, p, q))
     }
 
     // The sheet of the labels by which p moves in this sheet to some state, and this in the second to q.
@@ -41,11 +35,21 @@ impl Sheet {
         requires as_many { second.now.count ≡ self.now.count }
         ensures made { IfOk result (IsSheet self.now.count (product self.now.count self.now.words.items second.now.words.items)) }
     {
-        let words = words_told(heap, self.count, |p, q| self.labels_by_way(second, p, q))?;
-        Ok(Sheet {
-            count: self.count,
-            words,
-        })
+        Sheet::told(heap, self.count, |p, q| self.labels_by_way(second, p, q))
+    }
+
+    // The sheet of so many states whose word from p to q is as told.
+    fn told<F: Fn(usize, usize) -> u32>(
+        heap: Global,
+        count: usize,
+        word: F,
+    ) -> Result<Sheet, AllocError>
+        requires few { count ≤ 128 }
+        requires callable { (p q : ℕ) → p < count → q < count → F.pre word p q }
+        ensures told { IfOk result (λ s. (s.count ≡ count) × ((i : ℕ) → i < count * count → F.post word (i / count) (i % count) (slice_index s.words.items i))) }
+    {
+        let words = words_told(heap, count, word)?;
+        Ok(Sheet { count, words })
     }
 
     // For each state, marks for what it reaches by zero or more silent moves.
@@ -113,6 +117,7 @@ fn word_or_stay<C: Chart>(chart: &C, p: usize, q: usize) -> u32
 }
 
 // Every label where q is marked in the row of p, else none.
+#[tactic(auto, using(crate::proofs::Sheets::word_all, words::proofs::Bits::packed_none))]
 fn word_marked(rows: &[Marks], p: usize, q: usize) -> u32
     requires row { p < length rows.now }
     requires column { q < 128 }

@@ -1,8 +1,8 @@
-use Rattle.std.proofs.Common.{◌≡◌, false, get_or, sym, arith, below_more}
+use Rattle.std.proofs.Common.{◌≡◌, false, get_or, sym, below_more}
 use Rattle.std.specs.List.{AllWithin}
 use Rattle.charts.specs.MoveList.{same_move}
 use Rattle.charts.specs.declared.move_list.Move.{Move}
-use Rattle.charts.proofs.Faults.{found_before, none_before, repeats_none}
+use Rattle.charts.proofs.Faults.{found_before, none_before}
 use Rattle.charts.proofs.move_list.checks.has_repeat.Goals as goal
 
 pub returns-then-is_some : goal.returns-then-is_some
@@ -19,6 +19,3 @@ loop-i-preserved c j d h =
     (λ n l e. c.loop-i.invariant n e l)
     (none_before ms c.loop-i.i _ _ c.loop-i-test.true c.first_same.ensures.first (sym c.if-is_some.ensures))
     j h d
-
-pub returns : goal.returns
-returns c = record { value = sym (repeats_none c.args.moves.now (λ j d h. c.loop-i.invariant j d (omega arith))) }
