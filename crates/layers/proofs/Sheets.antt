@@ -1,7 +1,11 @@
 -- Sheets of words: how one is made word by word, and the moves that it has. Assumes nothing.
-use Rattle.std.proofs.Common.{◌≡◌, ℕ, zero, suc, ◌+◌, ◌*◌, ◌/◌, ◌%◌, ◌^◌, ◌<◌, ◌≤◌, Bool, true, false, not, ◌&&◌, ◌||◌, eqb, ltb, ◌⊎◌, ⊎_elim, inl, inr, None, unwrap_or, slice_get, List, [], ◌∷◌, ◌++◌, fold, map, length, get_or, sym, refl, ap, ◌∙◌, subst, ap₂, arith}
+use Rattle.std.proofs.Common.{◌≡◌, ℕ, zero, suc, ◌+◌, ◌-◌, ◌*◌, ◌/◌, ◌%◌, ◌^◌, ◌<◌, ◌≤◌, Bool, true, false, not, ◌&&◌, ◌||◌, eqb, ltb, ◌⊎◌, ⊎_elim, inl, inr, None, unwrap_or, slice_get, List, [], ◌∷◌, ◌++◌, fold, map, length, get_or, sym, refl, ap, ◌∙◌, subst, ap₂, arith}
 use mathlib.Core.Bool.{or_comm}
-use Rattle.std.specs.List.{range_with_len}
+use Rattle.std.specs.List.{range_with_len, FoldsTo}
+use Rattle.std.specs.Iterator.{Drains}
+use Rattle.std.specs.Fn.{Called, Mut}
+use Rattle.std.proofs.iter.Yields.{nat_range_steps, Range-gives}
+use Rattle.std.proofs.lemmas.Fn.{fold_over}
 use Rattle.closure.specs.Closure.{marks}
 use Rattle.charts.specs.Search.{some_below}
 use Rattle.std.proofs.lemmas.Option.{unwrap_or-slice_get}
@@ -100,7 +104,7 @@ module _ (g : ℕ → ℕ) where
   joined_more labels r word next rs is word_is next_is =
       next_is ∙ ap₂ (λ v w. word_of (λ a. bit v a || bit w a)) is word_is ∙ sym (fold-append joined 0 rs (r ∷ []))
 
-  pub labels_joined : (n : ℕ) → fold joined 0 (range_with_len 0 n) ≡ word_of (λ a. some_below n (λ r. bit (g r) a))
+  labels_joined : (n : ℕ) → fold joined 0 (range_with_len 0 n) ≡ word_of (λ a. some_below n (λ r. bit (g r) a))
   unfolding some_below
   labels_joined zero = packed_none 32 _ (λ _ _. refl)
   labels_joined (suc n) =
@@ -108,6 +112,19 @@ module _ (g : ℕ → ℕ) where
       ∙ fold-append joined 0 (range_with_len 0 n) (n ∷ [])
       ∙ packed_same 32 _ _ (λ a h.
       ap (λ b. b || bit (g n) a) (bit_of_packed 32 _ _ (labels_joined n) a h) ∙ or_comm (some_below n (λ r. bit (g r) a)) (bit (g n) a))
+
+  -- what a fold over the numbers below n gives, if each call of its closure joins the labels of one word more
+  pub joined_over : (n : ℕ) {F : Type 0} (calls : Mut F (ℕ × (ℕ × Unit {0})) ℕ) (f : F) (labels : ℕ)
+      → ((rs : List ℕ) (before r after : ℕ) (f' : F) → before ≡ fold joined 0 rs → Called calls f (before, (r, tt)) after f'
+      → (after ≡ fold joined 0 (rs ++ r ∷ [])) × (f' ≡ f))
+      → ((rs : List ℕ) × (f' : F) × Drains nat_range_steps (record { start = 0; end = n }) rs
+      × FoldsTo {P = F × ℕ} (λ p r q. Called calls p.0 (p.1, (r, tt)) q.1 q.0) (f, 0) rs (f', labels))
+      → labels ≡ word_of (λ a. some_below n (λ r. bit (g r) a))
+  joined_over n calls f labels step ran =
+      let all : n - 0 ≡ n = omega arith in
+      fold_over nat_range_steps (λ r. r) calls (λ rs so_far. so_far ≡ fold joined 0 rs) f step _ (range_with_len 0 (n - 0)) 0 labels
+      (Range-gives (record { start = 0; end = n })) refl ran
+      ∙ ap (λ k. fold joined 0 (range_with_len 0 k)) all ∙ labels_joined n
 
 -- a mark read from the rows
 pub mark_read : (n : ℕ) (f : ℕ → ℕ → Bool) (rows : List (List Bool)) (p q : ℕ) → n ≤ 128 → p < n → q < n
@@ -199,7 +216,6 @@ abbrev pub word_by_way : ℕ → ℕ → List ℕ → List ℕ → ℕ → ℕ �
 word_by_way n k first second p q r = word_of (λ a. bit ((sheet_chart n first).word p r) a && bit ((sheet_chart k second).word r q) a)
 
 pub product_told : (n k : ℕ) → n ≤ 128 → k ≡ n → (first second : List ℕ) (p q : ℕ) → p < n → q < n
-    → fold (joined (word_by_way n k first second p q)) 0 (range_with_len 0 n) ≡ word_of (λ a. product n first second p a q)
+    → word_of (λ a. some_below n (λ r. bit (word_by_way n k first second p q r) a)) ≡ word_of (λ a. product n first second p a q)
 product_told n k few same first second p q hp hq =
-    ap (λ j. fold (joined (word_by_way n j first second p q)) 0 (range_with_len 0 n)) same
-    ∙ labels_joined (word_by_way n n first second p q) n ∙ words_by_way n few first second p q hp hq
+    ap (λ j. word_of (λ a. some_below n (λ r. bit (word_by_way n j first second p q r) a))) same ∙ words_by_way n few first second p q hp hq

@@ -1,22 +1,21 @@
 -- The search for an attack, label by label, target by target, answer by answer. Assumes nothing.
-use Rattle.std.proofs.Common.{◌≡◌, ℕ, ◌+◌, ◌<◌, ◌≤◌, true, Decides, fold, sym, ◌∙◌, subst, ⊎_elim, arith}
-use Rattle.std.specs.List.{range_with_len}
+use Rattle.std.proofs.Common.{◌≡◌, ℕ, ◌+◌, ◌<◌, ◌≤◌, true, Decides, sym, subst, ⊎_elim, arith}
 use Rattle.std.proofs.lemmas.Bool.{cases_lt}
 use Rattle.std.proofs.lemmas.Bool.Decides.{Decides-at, Decides-like}
-use Rattle.words.specs.Bits.{bit}
+use Rattle.words.specs.Bits.{bit, word_of}
 use Rattle.words.proofs.Bits.{bit_of_packed}
 use Rattle.charts.specs.Meaning.{Meaning, has_move}
 use Rattle.charts.proofs.Meanings.{move_inside}
+use Rattle.charts.specs.Search.{some_below}
 use Rattle.charts.proofs.Places.{some_below_decides}
-use Rattle.layers.proofs.Sheets.{joined, labels_joined}
 use Rattle.likeness.specs.Attack.{AttackBy}
 use Rattle.likeness.specs.Bisimulation.{Answered}
 
 -- the labels of the words from p to each state, joined, are those by which p moves
-pub labels_told : (m : Meaning) (p n labels : ℕ) → n ≡ m.count → labels ≡ fold (joined (m.word p)) 0 (range_with_len 0 n)
+pub labels_told : (m : Meaning) (p n labels : ℕ) → n ≡ m.count → labels ≡ word_of (λ a. some_below n (has_move m p a))
     → (a : ℕ) → a < 32 → Decides (bit labels a) ((t : ℕ) × (has_move m p a t ≡ true))
 labels_told m p n labels all is a ha =
-    Decides-at (bit labels a) _ (bit_of_packed 32 labels _ (is ∙ labels_joined (m.word p) n) a ha)
+    Decides-at (bit labels a) _ (bit_of_packed 32 labels _ is a ha)
     (Decides-like _
     (λ h. (h.0, h.2))
     (λ h. let inside = (move_inside m p a h.0 h.1).1 in (h.0, omega arith, h.1))

@@ -14,6 +14,7 @@ level_in n levels p q = unwrap_or (value_at n levels p q) 0
 abbrev pub chart_in : LentSheet ℕ → Meaning
 chart_in o = sheet_chart o.count o.values.now
 
+-- and the chart of the move sheet beside a level sheet
 abbrev pub chart_on : Sheets → Meaning
 chart_on s = chart_in s.moves
 

@@ -41,6 +41,7 @@ fn attacks<C: Chart, L: Fn(usize, usize) -> bool>(
 {
     let n = chart.count();
     let offered = labels_of(chart, mover);
+    // The three loops and their labels are a rule of the project.
     'labels: for a in 0u8..32 {
         if !contains(offered, a) {
             continue 'labels;

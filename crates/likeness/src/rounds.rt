@@ -97,6 +97,7 @@ impl Sheets<'_, '_> {
     }
 
     // One round more: the pairs whose level is one more than the rounds before it are given it. Answers whether there is such a pair.
+    #[tactic(auto, using(crate::proofs::Turning::round_given, crate::proofs::Turning::round_levels))]
     fn run_round(&mut self, rounds: u8) -> bool
         requires level_fits { rounds < 255 }
         requires levels_before { (p q : ℕ) → p < self.old.moves.count → q < self.old.moves.count → levels_on self.old p q ≡ level_to (chart_on self.old) rounds p q }
@@ -107,7 +108,7 @@ impl Sheets<'_, '_> {
         let n = self.moves.count;
         let level = rounds + 1;
         let mut given = false;
-        // The round writes the sheet that it reads, so it goes by places.
+        // The memory is fixed: the round writes the sheet that it reads, so it goes by places.
         for i in 0..n * n {
             if self.levels[i] == 0 && self.has_attack(i / n, i % n, level) {
                 self.levels[i] = level;

@@ -5,7 +5,7 @@ use Rattle.likeness.specs.declared.sheets.Sheets.{Sheets}
 use Rattle.likeness.specs.Attack.{Attack}
 use Rattle.likeness.specs.Reading.{chart_in, chart_on, level_in, SameSheets}
 use Rattle.likeness.proofs.Laying.{count_kept}
-use Rattle.likeness.proofs.Turning.{Turned, turned_none, turn_settled, turn_unattacked, turn_attacked, round_levels, round_given}
+use Rattle.likeness.proofs.Turning.{Turned, turned_none, turn_settled, turn_unattacked, turn_attacked}
 use Rattle.likeness.proofs.sheets.Sheets.run_round.Goals as goal
 use Rattle.likeness.proofs.sheets.Sheets.run_round.Goals.{then-self-i-eq0+then-has_attack, else-self-i-eq0, else-self-i-eq0-via-then-self-i-eq0+else-has_attack, else-self-i-eq0-via-else-self-i-eq0}
 
@@ -47,9 +47,3 @@ loop-i-preserved c =
         same_sheets = same;
       })
     ]
-
-pub returns-clause-given : goal.returns-clause-given
-returns-clause-given c = round_given c.loop-i.invariant.turned (omega arith)
-
-pub returns-clause-levels_after : goal.returns-clause-levels_after
-returns-clause-levels_after c = round_levels c.loop-i.invariant.turned (omega arith)
