@@ -1,6 +1,7 @@
 -- What a chart has once a set of labels is hidden. Assumes nothing.
 use Rattle.std.proofs.Common.{◌≡◌, ℕ, zero, suc, ◌^◌, ◌<◌, Bool, true, false, not, ◌&&◌, ◌||◌, eqb, ltb, ◌⊎◌, Decides, sym, refl, ap, ◌∙◌, subst, ⊎_elim, arith}
-use Rattle.std.proofs.lemmas.Bool.{and_parts, and_from, ltb-true, lt-ltb, not-true, not_from_false, cases_Bool, both_ways, true≢false, ne_eqb, eqb-false}
+use Rattle.std.proofs.Math.Nat.{pos_of_ne-zero}
+use Rattle.std.proofs.lemmas.Bool.{and_parts, and_from, ltb-true, lt-ltb, not-true, not_from_false, false_from_ne_true, true_from_ne_false, both_ways, true≢false, ne_eqb, eqb-false}
 use Rattle.std.proofs.lemmas.Bool.Decides.{Decides-at, Decides-like, Decides-and, Decides-or}
 use Rattle.words.specs.Bits.{bit, word_of}
 use Rattle.words.proofs.Bits.{bit_of_packed, bit-pow, bit_none, bits_same, packed_lt}
@@ -70,10 +71,6 @@ at_visible true true h false e = refl
 at_visible true false h false e = refl
 at_visible false s h false e = refl
 
-not_zero : (a : ℕ) → (a ≡ 0 → ⊥) → 0 < a
-not_zero zero h = absurd (h refl)
-not_zero (suc a) h = omega arith
-
 module _ (set : ℕ) (m : Meaning) (p q : ℕ) (w others hidden both : ℕ) (w_is : w ≡ m.word p q)
     (others_is : others ≡ word_of (λ a. not (bit 1 a))) (hidden_is : hidden ≡ word_of (λ a. bit set a && bit others a))
     (both_is : both ≡ word_of (λ a. bit w a && bit hidden a)) where
@@ -88,30 +85,23 @@ module _ (set : ℕ) (m : Meaning) (p q : ℕ) (w others hidden both : ℕ) (w_i
   hidden_from_bit a h e =
       let parts = and_parts (has_move m p a q) _ (sym (both_bit a h) ∙ e) in
       let visible = and_parts (bit set a) _ parts.1 in
-      let above : 0 < a = not_zero a (eqb-false a 0 (not-true (eqb a 0) visible.1)) in
+      let above : 0 < a = pos_of_ne-zero (eqb-false a 0 (not-true (eqb a 0) visible.1)) in
       (hidden_decides set m p q).1 (a, above, visible.0, parts.0)
 
   no_bit : hidden_move set m p q ≡ false → (a : ℕ) → a < 32 → bit both a ≡ false
-  no_bit none a h = ⊎_elim
-      (λ e. absurd (both_ways (hidden_move set m p q) none (hidden_from_bit a h e)))
-      (λ e. e)
-      (cases_Bool (bit both a))
+  no_bit none a h = false_from_ne_true (bit both a) (λ e. both_ways (hidden_move set m p q) none (hidden_from_bit a h e))
 
   none_hidden : both ≡ 0 → hidden_move set m p q ≡ false
-  none_hidden none = ⊎_elim
-      (λ e. let h = (hidden_decides set m p q).0 e in
+  none_hidden none = false_from_ne_true (hidden_move set m p q) (λ e.
+      let h = (hidden_decides set m p q).0 e in
       let within = (move_inside m p h.0 q h.3).2 in
-      absurd (both_ways (bit both h.0) (ap (λ v. bit v h.0) none ∙ bit_none h.0)
-      (both_bit h.0 within ∙ and_from _ _ h.3 (and_from _ _ h.2 (not_from_false _ (ne_eqb h.0 0 (λ z. let v = h.1 in omega arith)))))))
-      (λ e. e)
-      (cases_Bool (hidden_move set m p q))
+      both_ways (bit both h.0) (ap (λ v. bit v h.0) none ∙ bit_none h.0)
+      (both_bit h.0 within ∙ and_from _ _ h.3 (and_from _ _ h.2 (not_from_false _ (ne_eqb h.0 0 (λ z. let v = h.1 in omega arith))))))
 
   some_hidden : (both ≡ 0 → ⊥) → hidden_move set m p q ≡ true
-  some_hidden some = ⊎_elim
-      (λ e. e)
-      (λ e. absurd (some (bits_same 32 both 0 (subst (λ v. v < 2 ^ 32) (sym both_is) (packed_lt _ 32)) (omega arith)
-      (λ a h. no_bit e a h ∙ sym (bit_none a)))))
-      (cases_Bool (hidden_move set m p q))
+  some_hidden some = true_from_ne_false (hidden_move set m p q) (λ e.
+      some (bits_same 32 both 0 (subst (λ v. v < 2 ^ 32) (sym both_is) (packed_lt _ 32)) (omega arith)
+      (λ a h. no_bit e a h ∙ sym (bit_none a))))
 
   module _ (told rest r : ℕ) (told_bit : (a : ℕ) → a < 32 → bit told a ≡ (bit w a || (eqb a 0 && hidden_move set m p q)))
       (rest_is : rest ≡ word_of (λ a. not (bit hidden a))) (r_is : r ≡ word_of (λ a. bit told a && bit rest a)) where
