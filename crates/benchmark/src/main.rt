@@ -1,4 +1,4 @@
-// How long quiet charts take to make and to ask, on chains of silent moves of up to 128 states.
+// How long quiet charts take to make and to ask, on rings of up to 128 states whose moves are silent but the last.
 // Standard output has what was found, and is compared; standard error has the times.
 #![tactic(auto)]
 

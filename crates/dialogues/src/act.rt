@@ -8,7 +8,7 @@ use std::error::Error;
 use std::fmt;
 
 // What is done in a move; tau is silent.
-#[derive(Clone, Copy, PartialEq, Eq, Hash, Debug)]
+#[derive(Clone, Copy, PartialEq, Eq, Debug)]
 pub enum Act {
     Tau = 0,
     Scan = 1,
@@ -19,7 +19,7 @@ pub enum Act {
 }
 
 // A label that stands for no act.
-#[derive(Clone, Copy, PartialEq, Eq, Hash, Debug)]
+#[derive(Clone, Copy, PartialEq, Eq, Debug)]
 pub struct UnknownLabel(pub u8);
 
 // The label of the act.

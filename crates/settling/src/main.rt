@@ -35,11 +35,9 @@ fn tell_settled(
 ) -> io::Result<()> {
     // No type for the verdict: the new form is no plainer, because here and in the trials other text stands round the two words.
     match settle(&list.chart(), p, q, ROUNDS, moves, levels) {
-        Ok((0, rounds)) => {
-            println!(rt; "  States {p} and {q} are like: depth 0, rounds {rounds}.")
-        }
         Ok((depth, rounds)) => {
-            println!(rt; "  States {p} and {q} are unlike: depth {depth}, rounds {rounds}.")
+            let verdict = if depth == 0 { "like" } else { "unlike" };
+            println!(rt; "  States {p} and {q} are {verdict}: depth {depth}, rounds {rounds}.")
         }
         Err(refusal) => println!(rt; "  States {p} and {q} are {refusal}."),
     }

@@ -17,7 +17,7 @@ pub fn contains(word: u32, label: u8) -> bool
 }
 
 // The word with the one label, or the empty word where the label is past 31.
-#[tactic(auto, using(crate::proofs::Bits::word_has_its_labels, crate::proofs::Bits::word_fits))]
+#[tactic(auto, using(crate::proofs::Bits::word_has_its_labels, crate::proofs::Bits::word_fits, crate::proofs::Bits::packed_none))]
 pub fn singleton(label: u8) -> u32
     ensures value { result ≡ word_of (λ a. nat_eq a label) }
     ensures word_has_its_labels { WordHasItsLabels }
