@@ -21,7 +21,7 @@ pub trait Steps {
 }
 
 // A mark for each of 128 states: those that zero or more steps lead to from the start, through states below the count and 128.
-#[tactic(auto, using(crate::proofs::Paths::reaches_decides, crate::proofs::Walk::fewer_left))]
+#[tactic(auto, using(crate::proofs::Paths::reaches_decides, crate::proofs::Walk::fewer_left, crate::proofs::Walk::walk_decides, crate::proofs::Walk::walk_ends))]
 pub fn reached_from<S: Steps>(steps: &S, count: usize, start: usize) -> Marks
     ensures value { result ≡ marks (reaches (min count 128) (S.step steps.now) start) }
     ensures marks_what_is_reached { (q : ℕ) → (IsTrue (slice_index_or result q false) ↔ Reached (min count 128) (S.step steps.now) start q) }

@@ -1,6 +1,5 @@
-use Rattle.std.proofs.Common.{ℕ, ◌≤◌, false, get_or, Decides, ap, ◌∙◌, subst, arith}
-use Rattle.closure.specs.Closure.{Reached, reaches, marks}
-use Rattle.closure.proofs.Walk.{walk_begins, walk_begins_nowhere, walk_goes_on, walk_decides, walk_ends}
+use Rattle.std.proofs.Common.{◌≤◌, arith}
+use Rattle.closure.proofs.Walk.{walk_begins, walk_begins_nowhere, walk_goes_on}
 use Rattle.closure.proofs.reached_from.Goals as goal
 use Rattle.closure.proofs.reached_from.Goals.{then-start-n, else-start-n}
 
@@ -14,13 +13,3 @@ loop-p-init g c =
 
 pub loop-p-preserved : goal.loop-p-preserved
 loop-p-preserved g c = walk_goes_on _ _ _ _ _ _ _ c.loop-p.invariant c.in-Some.ensures.cases.1 c.type_inv.seen c.mark_targets.ensures.marked
-
-pub returns-clause-value : goal.returns-clause-value
-returns-clause-value g c =
-    walk_ends _ _ _ _ _ c.loop-p.invariant c.in_default.ensures.cases
-    ∙ ap (λ n. marks (reaches n (g.S.Steps.step c.args.steps.now) c.args.start)) c.min-n.ensures
-
-pub returns-clause-marks_what_is_reached : goal.returns-clause-marks_what_is_reached
-returns-clause-marks_what_is_reached g c =
-    subst (λ n. (q : ℕ) → Decides (get_or c.loop-p.seen q false) (Reached n (g.S.Steps.step c.args.steps.now) c.args.start q))
-    c.min-n.ensures (walk_decides _ _ _ _ _ c.loop-p.invariant c.in_default.ensures.cases)
