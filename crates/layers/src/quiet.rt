@@ -30,6 +30,7 @@ impl Quiet {
 }
 
 // The sheet of the quiet chart: along silent moves, by a move of the chart or by staying, and along silent moves.
+#[tactic(auto, using(crate::proofs::Quieting::quiet_made))]
 fn quiet_sheet<C: Chart>(heap: Global, below: &C) -> Result<Sheet, AllocError>
     ensures made { IfOk result (IsSheet (C.Chart.meaning below.now).count (quiet_move (C.Chart.meaning below.now))) }
 {
