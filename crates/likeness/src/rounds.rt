@@ -97,7 +97,7 @@ impl Sheets<'_, '_> {
     }
 
     // One round more: the pairs whose level is one more than the rounds before it are given it. Answers whether there is such a pair.
-    #[tactic(auto, using(crate::proofs::Turning::round_given, crate::proofs::Turning::round_levels))]
+    #[tactic(auto, using(crate::proofs::Laying::count_kept, crate::proofs::Turning::turned_none, crate::proofs::Turning::round_given, crate::proofs::Turning::round_levels))]
     fn run_round(&mut self, rounds: u8) -> bool
         requires level_fits { rounds < 255 }
         requires levels_before { (p q : ℕ) → p < self.old.moves.count → q < self.old.moves.count → levels_on self.old p q ≡ level_to (chart_on self.old) rounds p q }

@@ -1,21 +1,12 @@
-use Rattle.std.proofs.Common.{ℕ, ◌+◌, ◌/◌, ◌%◌, ◌*◌, ◌<◌, Bool, sym, refl, subst, subst₂, add-one, arith}
+use Rattle.std.proofs.Common.{ℕ, ◌+◌, ◌/◌, ◌%◌, ◌*◌, ◌<◌, Bool, sym, subst, subst₂, add-one, arith}
 use Rattle.std.proofs.lemmas.Bool.{iff_false}
 use Rattle.layers.specs.declared.sheet.LentSheet.{LentSheet}
 use Rattle.likeness.specs.declared.sheets.Sheets.{Sheets}
 use Rattle.likeness.specs.Attack.{Attack}
 use Rattle.likeness.specs.Reading.{chart_in, chart_on, level_in, SameSheets}
-use Rattle.likeness.proofs.Laying.{count_kept}
-use Rattle.likeness.proofs.Turning.{Turned, turned_none, turn_settled, turn_unattacked, turn_attacked}
+use Rattle.likeness.proofs.Turning.{Turned, turn_settled, turn_unattacked, turn_attacked}
 use Rattle.likeness.proofs.sheets.Sheets.run_round.Goals as goal
 use Rattle.likeness.proofs.sheets.Sheets.run_round.Goals.{then-self-i-eq0+then-has_attack, else-self-i-eq0, else-self-i-eq0-via-then-self-i-eq0+else-has_attack, else-self-i-eq0-via-else-self-i-eq0}
-
-pub loop-i-init : goal.loop-i-init
-loop-i-init c =
-    let s = c.args.self.now in
-    record {
-      turned = turned_none (chart_on s) s.moves.count c.args.rounds s.levels.now (count_kept s.moves s.moves refl) s.levels_suffice c.requires.levels_before;
-      same_sheets = (refl, refl);
-    }
 
 pub loop-i-preserved : goal.loop-i-preserved
 loop-i-preserved c =
