@@ -13,7 +13,7 @@ use std::io::{BufRead, BufReader};
 // A sheet of so many places suffices for every chart.
 const PLACES: usize = 128 * 128;
 
-// The sheets that a trial is settled on.
+// The two sheets that a trial is settled on, in the form that settling takes.
 #[derive(Drop)]
 struct Sheets {
     moves: Vec<u32>,
