@@ -11,7 +11,7 @@ use Rattle.charts.specs.Search.{some_below}
 use Rattle.std.proofs.lemmas.Option.{unwrap_or-slice_get}
 use Rattle.std.proofs.lemmas.Bool.{cases_lt, cond-true, cond-false, and_left, and_right, le-ltb, eq-eqb, ne_eqb, and_from, lt-ltb}
 use Rattle.std.proofs.lemmas.List.Sums.{fold-append}
-use Rattle.std.proofs.lemmas.List.FromFn.{length-map-range_with_len, get_or-map-range_with_len, map-range_with_len_more, fill_by_all}
+use Rattle.std.proofs.lemmas.List.FromFn.{length-map-range_with_len, get_or-map-range_with_len, fill_by_all}
 use Rattle.std.proofs.lemmas.Nat.{mul-add-lt, div-mul-add, mod-mul-add, div_below, mod_below}
 use Rattle.words.specs.Bits.{bit, word_of}
 use Rattle.words.proofs.Bits.{bit-packed, bit_of_packed, bit-pow, bit_none, packed_is, packed_none, packed_same}
@@ -44,12 +44,6 @@ row_below n i h = div_below i n n (some_states n i h) h
 
 pub column_below : (n i : ℕ) → i < n * n → i % n < n
 column_below n i h = mod_below i n (some_states n i h)
-
--- a list made from a function of the index, and one element more
-pub counted_more : {X : Type 0} (f : ℕ → X) (i : ℕ) (xs ys : List X) (x : X) → xs ≡ map f (range_with_len 0 i) → ys ≡ xs ++ x ∷ [] → x ≡ f i
-    → ys ≡ map f (range_with_len 0 (i + 1))
-counted_more f i xs ys x before more is =
-    more ∙ ap₂ (λ zs y. zs ++ y ∷ []) before is ∙ sym (map-range_with_len_more f 0 i i (omega arith))
 
 module _ (n : ℕ) (f : ℕ → ℕ → ℕ → Bool) where
   pub sheet_length : length (sheet n f) ≡ n * n

@@ -41,7 +41,7 @@ fn attacks<C: Chart, L: Fn(usize, usize) -> bool>(
 {
     let n = chart.count();
     let offered = labels_of(chart, mover);
-    // The three loops and their labels are a rule of the project.
+    // Three nested loops, left by their labels: the form is a rule of the project (docs/DECISIONS.md, 38).
     'labels: for a in 0u8..32 {
         if !contains(offered, a) {
             continue 'labels;

@@ -28,6 +28,7 @@ impl From<Refusal> for u8 {
     }
 }
 
+// The words are those of every refusal; each enum has an impl of its own, since one impl is of one type.
 impl fmt::Display for Refusal {
     ghost use Rattle.std.specs.Prelude.{◌++◌, Some, codes, decimal};
 

@@ -65,6 +65,7 @@ pub fn settle<C: Chart>(
     sheets.run_rounds(p, q, limit)
 }
 
+// Each of these methods keeps the two lent sheets, and has to say so (`same_sheets`), since no type of a method that is lent them can.
 impl Sheets<'_, '_> {
     // Clears the level sheet, and runs rounds until the pair has a level, a round gives no pair one, or the limit is reached.
     fn run_rounds(&mut self, p: usize, q: usize, limit: usize) -> Result<(u8, u8), Refusal>

@@ -24,7 +24,7 @@ const PLACES: usize = 128 * 128;
 // A label of visible moves.
 const VISIBLE: u8 = 1;
 
-// Prints what settling two states of a list's chart answers.
+// Prints what settling two states of a list's chart answers, on two sheets in the form that settling takes.
 fn tell_settled(
     rt: &impl Print,
     list: MoveList,

@@ -57,19 +57,13 @@ impl Sheet {
         ensures full { IfOk result (λ v. vec_len v ≡ self.now.count) }
         ensures made { IfOk result (λ v. v.items ≡ map (λ p. marks (reaches self.now.count (silent_in self.now.count self.now.words.items) p)) (range_with_len 0 self.now.count)) }
     {
-        // Tried as a chain that collects: the check does not find what a collected list of arrays holds.
-        let mut rows = Vec::new(heap);
-        for p in 0..self.count {
-            rows.push(self.reach_from(p))?;
-        }
-        Ok(rows)
-    }
-
-    // Marks for what p reaches by zero or more silent moves.
-    fn reach_from(&self, p: usize) -> Marks
-        ensures value { result ≡ marks (reaches self.now.count (silent_in self.now.count self.now.words.items) p) }
-    {
-        reached_from(self, self.count, p)
+        (0..self.count)
+            .map(
+                |p| -> Marks
+                    ensures value { result ≡ marks (reaches self.entry.now.count (silent_in self.entry.now.count self.entry.now.words.items) p) }
+                { reached_from(self, self.count, p) },
+            )
+            .collect(heap)
     }
 
     // The labels by which p moves in this sheet to some state, and this in the second to q.
