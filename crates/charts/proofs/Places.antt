@@ -1,12 +1,11 @@
 -- The numbers below a bound, and the elements of a list by their places, that pass a test. Assumes nothing.
-use Rattle.std.proofs.Common.{◌≡◌, ℕ, zero, suc, ◌<◌, Bool, true, false, ◌||◌, List, length, is_some, Some, None, Decides, Option, sym, refl, ap, ap₂, ◌∙◌, arith}
+use Rattle.std.proofs.Common.{◌≡◌, ℕ, zero, suc, ◌<◌, Bool, true, false, ◌||◌, List, length, is_some, Some, None, Decides, Option, sym, refl, ap, ap₂, arith}
 use Rattle.std.specs.List.{HoldsAt, AllWithin}
-use Rattle.std.proofs.lemmas.Bool.Decides.{Decides-by_or, Decides-below_or}
+use Rattle.std.proofs.lemmas.Bool.Decides.{Decides-by_or, Decides-below_or, same_from_decides}
 use Rattle.std.proofs.lemmas.Bool.{false≢true}
 use mathlib.Core.Path.{fun_ext}
-use Rattle.std.specs.Cmp.{IsEquivalence}
 use Rattle.std.specs.List.{list_any, position}
-use Rattle.charts.specs.Search.{some_below, First}
+use Rattle.charts.specs.Search.{some_below, First, Equivalence}
 
 -- some number passes exactly when there is one
 pub some_below_decides : (test : ℕ → Bool) (n : ℕ) → Decides (some_below n test) ((k : ℕ) × (k < n) × (test k ≡ true))
@@ -34,8 +33,9 @@ module _ {X : Type 0} (test : X → Bool) where
   pub some_decides : (xs : List X) → Decides (list_any test xs) ((i : ℕ) × (i < length xs) × HoldsAt (λ x. test x ≡ true) xs i)
   some_decides = Decides-by_or test (λ x. test x ≡ true) (list_any test) (λ x. (λ e. e, λ e. e)) refl (λ _ _. refl)
 
--- a record that equals the wanted one is found where the wanted one is
-pub by_sameness : {X : Type 0} (same : X → X → Bool) → IsEquivalence same → (xs : List X) (w y : X) → same y w ≡ true
+-- a record that is the same as the wanted one is found where the wanted one is
+pub by_sameness : {X : Type 0} (same : X → X → Bool) → Equivalence same → (xs : List X) (w y : X) → same y w ≡ true
     → position (λ x. same x w) xs ≡ position (λ x. same x y) xs
 by_sameness same laws xs w y e =
-    ap (λ test. position test xs) (fun_ext (λ x. laws.symm x w ∙ sym (laws.congr y w x e) ∙ laws.symm y x))
+    ap (λ test. position test xs) (fun_ext (λ x. same_from_decides (same x w) (same x y)
+    (λ h. laws.transitive x w y h (laws.symmetric y w e), λ h. laws.transitive x y w h e) (λ h. h, λ h. h)))

@@ -3,6 +3,7 @@ ghost use Rattle.std.specs.Prelude.{◌≤◌};
 
 mod charts;
 mod checks;
+pub mod sameness;
 
 // A move from a state, by a label, to a state.
 #[derive(Clone, Copy, PartialEq, Eq, Debug)]

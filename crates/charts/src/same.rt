@@ -1,12 +1,24 @@
-// The search for the first record of a slice that equals a given one.
-ghost use Rattle.std.specs.Prelude.{◌≡◌, true, position};
-ghost use Rattle.charts.specs.Search.{First};
+// Records with a sameness, and the search for the first of a slice.
+ghost use Rattle.std.specs.Prelude.{◌≡◌, Bool, true, position};
+ghost use Rattle.charts.specs.Search.{Equivalence, First};
 
-// The place of the first record that equals the wanted one, if one does.
-pub fn first_same<T: Eq>(records: &[T], wanted: &T) -> Option<usize>
-    ensures value { result ≡ position (λ x. T.eq x wanted.now) records.now }
-    ensures first { First (λ x. T.eq x wanted.now) records.now result }
-    ensures by_sameness_alone { (y : T) → T.eq y wanted.now ≡ true → result ≡ position (λ x. T.eq x y) records.now }
+// A type has one `==`, and of records that carry more than what is compared it may compare that too: so sameness is a trait of its own.
+pub trait Same {
+    // Two records are the same.
+    ghost same: { Self → Self → Bool };
+
+    // Sameness is reflexive, symmetric and transitive.
+    ghost lawful: { Equivalence same };
+
+    fn is_same(&self, other: &Self) -> bool
+        ensures answers_sameness { result ≡ same self.now other.now };
+}
+
+// The place of the first record that is the same as the wanted one, if one is.
+pub fn first_same<T: Same>(records: &[T], wanted: &T) -> Option<usize>
+    ensures value { result ≡ position (λ x. T.same x wanted.now) records.now }
+    ensures first { First (λ x. T.same x wanted.now) records.now result }
+    ensures by_sameness_alone { (y : T) → T.same y wanted.now ≡ true → result ≡ position (λ x. T.same x y) records.now }
 {
-    records.iter().position(|record| record == wanted)
+    records.iter().position(|record| record.is_same(wanted))
 }

@@ -3,7 +3,7 @@ use crate::telling::to;
 use charts::move_list::MoveList;
 use dialogues::act::{Act, UnknownLabel, step};
 use dialogues::chain::chain;
-use dialogues::checked::Checked;
+use dialogues::checked::{Checked, Size, Verdict};
 use std::test::Fail;
 
 #[test]
@@ -72,6 +72,25 @@ fn a_checked_list_is_told_with_its_verdict(rt: HostRuntime) -> Result<(), Fail> 
     assert_eq!(rt;
         format!(in rt.alloc(); "{refused}")?.as_str(),
         "A slip: a list of 3 states and 3 moves.\n  The list is refused, number 20."
+    );
+    Ok(())
+}
+
+#[test]
+fn a_checked_list_is_told_line_by_line(rt: HostRuntime) -> Result<(), Fail> {
+    let moves = [to(0, 1, 1)];
+    let list = MoveList {
+        count: 1,
+        moves: &moves,
+    };
+    let title = "One move";
+    assert_eq!(rt;
+        format!(in rt.alloc(); "{}", Size(Checked { title, list }))?.as_str(),
+        "One move: a list of 1 states and 1 moves."
+    );
+    assert_eq!(rt;
+        format!(in rt.alloc(); "{}", Verdict(list))?.as_str(),
+        "  The list is refused, number 20."
     );
     Ok(())
 }

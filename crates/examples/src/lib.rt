@@ -13,3 +13,4 @@ mod likeness_tests;
 mod telling;
 #[cfg(test)]
 mod tests;
+pub mod visits;

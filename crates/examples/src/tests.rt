@@ -1,5 +1,6 @@
 // Examples at the edges of what is allowed.
 use crate::telling::to;
+use crate::visits::Visit;
 use charts::chart::Chart;
 use charts::move_list::{Move, MoveList};
 use charts::refusal::Refusal;
@@ -72,6 +73,30 @@ fn the_first_equal_record_is_found(rt: HostRuntime) {
     let twice = [b, a, b, a];
     assert_eq!(rt; first_same(&twice, &a), Some(1));
     assert_eq!(rt; first_same(&twice, &c), None);
+}
+
+#[test]
+fn the_first_record_that_is_the_same_need_not_be_equal(rt: HostRuntime) {
+    let visits = [
+        Visit {
+            volunteer: 7,
+            day: 1,
+        },
+        Visit {
+            volunteer: 8,
+            day: 1,
+        },
+        Visit {
+            volunteer: 8,
+            day: 2,
+        },
+    ];
+    let wanted = Visit {
+        volunteer: 8,
+        day: 3,
+    };
+    assert_eq!(rt; first_same(&visits, &wanted), Some(1));
+    assert_eq!(rt; first_same(&visits[..1], &wanted), None);
 }
 
 // The count of any chart.

@@ -11,6 +11,7 @@ use Rattle.charts.specs.Search.{some_below}
 use Rattle.std.proofs.lemmas.Option.{unwrap_or-slice_get}
 use Rattle.std.proofs.lemmas.Bool.{cases_lt, cond-true, cond-false, and_left, and_right, le-ltb, eq-eqb, ne_eqb, and_from, lt-ltb}
 use Rattle.std.proofs.lemmas.List.Sums.{fold-append}
+use Rattle.std.proofs.lemmas.List.{get_or_default}
 use Rattle.std.proofs.lemmas.List.FromFn.{length-map-range_with_len, get_or-map-range_with_len, fill_by_all}
 use Rattle.std.proofs.lemmas.Nat.{mul-add-lt, div-mul-add, mod-mul-add, div_below, mod_below}
 use Rattle.words.specs.Bits.{bit, word_of}
@@ -189,6 +190,15 @@ module _ (n : ℕ) (few : n ≤ 128) (words : List ℕ) where
       (λ h. (h.0.0, h.0.1, omega arith, h.1))
       (λ h. ((h.0, h.1), h.3))
       (Decides-and _ _ (Decides-and _ _ (Decides-ltb p n) (Decides-ltb q n)) (λ e. e, λ e. e)))
+
+-- label by label: a word read at its place in a sheet of n words a row, where n is told as k
+pub held : (n k : ℕ) → n ≡ k → n ≤ 128 → (words : List ℕ) → length words ≡ n * n → (p q w : ℕ) → p < n → q < n → w ≡ get_or words (p * k + q) w
+    → (a : ℕ) → a < 32 → bit w a ≡ has_move (sheet_chart n words) p a q
+unfolding moves_in
+held n k same few words full p q w hp hq is a ha =
+    let within = place_below n p q hp hq in
+    ap (λ v. bit v a) (is ∙ ap (λ j. get_or words (p * j + q) w) (sym same) ∙ get_or_default words (p * n + q) w 0 (omega (arith, within, full)))
+    ∙ sym (sheet_chart_has n few words p a q hp hq ha)
 
 -- a list of k × k words that are made of their places, where k is n, is a sheet of n states
 pub sheet_told : (k n : ℕ) → k ≡ n → (f : ℕ → ℕ → ℕ → Bool) {len : ℕ} (words : List ℕ) → len ≡ length words → len ≡ k * k

@@ -25,7 +25,7 @@ impl<T: Copy> LentSheet<'_, T> {
         if p >= self.count || q >= self.count {
             return None;
         }
-        self.values.get(p * self.count + q).copied()
+        Some(self.values[p * self.count + q])
     }
 }
 

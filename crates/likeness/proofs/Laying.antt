@@ -41,12 +41,13 @@ module _ (n : ℕ) (f : ℕ → ℕ → ℕ) where
     laid_over front long each = ap (λ xs. xs ++ drop (n * n) d) (fill_by_all (λ k. f (k / n) (k % n)) front (n * n) 0 long each) ∙ sym laid_is
 
 -- laid over once more
-pub laid_again : (n : ℕ) (f g : ℕ → ℕ → ℕ) (d : List ℕ) → laid (by_pairs n f) (laid (by_pairs n g) d) ≡ laid (by_pairs n f) d
-laid_again n f g d =
-    laid_is n f (laid (by_pairs n g) d)
-    ∙ ap (λ xs. by_pairs n f ++ drop (n * n) xs) (laid_is n g d)
-    ∙ ap (λ xs. by_pairs n f ++ xs) (drop_at (by_pairs n g) (drop (n * n) d) (n * n) (pairs_long n g))
-    ∙ sym (laid_is n f d)
+pub laid_again : {X : Type 0} (xs ys d : List X) → length xs ≡ length ys → laid xs (laid ys d) ≡ laid xs d
+unfolding laid
+laid_again xs ys d same =
+    ap (λ zs. xs ++ zs) (drop_at ys (drop (length ys) d) (length xs) (sym same) ∙ ap (λ k. drop k d) (sym same))
+
+pub laid_pairs_again : (n : ℕ) (f g : ℕ → ℕ → ℕ) (d : List ℕ) → laid (by_pairs n f) (laid (by_pairs n g) d) ≡ laid (by_pairs n f) d
+laid_pairs_again n f g d = laid_again (by_pairs n f) (by_pairs n g) d (pairs_long n f ∙ sym (pairs_long n g))
 
 -- the level that is read of a pair of states
 pub level_inside : (n : ℕ) (levels : List ℕ) (p q : ℕ) → p < n → q < n → level_in n levels p q ≡ at_pair n levels p q

@@ -11,10 +11,10 @@ module _ (m : Meaning) (n : ℕ) (n_is : n ≡ m.count) (p q : ℕ) (moves level
   room : n * n ≡ m.count * m.count
   room = ap (λ k. k * k) n_is
 
-  pub refused_states : (n ≤ p) ⊎ ((p < n) × (n ≤ q)) → refused_at_once m p q moves levels ≡ Some (bare 11)
+  pub refused_states : (n ≤ p) ⊎ (n ≤ q) → refused_at_once m p q moves levels ≡ Some (bare 11)
   unfolding refused_at_once
   refused_states (inl out) = cond-false _ _ _ (and_left _ _ (le-ltb p m.count (omega arith)))
-  refused_states (inr (_, out)) = cond-false _ _ _ (and_right _ _ (le-ltb q m.count (omega arith)))
+  refused_states (inr out) = cond-false _ _ _ (and_right _ _ (le-ltb q m.count (omega arith)))
 
   module _ (hp : p < n) (hq : q < n) where
     both_states : (ltb p m.count && ltb q m.count) ≡ true

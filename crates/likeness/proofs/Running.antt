@@ -8,7 +8,7 @@ use Rattle.likeness.specs.Levels.{level, level_to, some_level_after}
 use Rattle.likeness.specs.Reading.{level_in}
 use Rattle.likeness.specs.Sheet.{by_pairs, laid, level_sheet}
 use Rattle.likeness.specs.Settle.{rounds_needed, settled_answer}
-use Rattle.likeness.proofs.Laying.{level_laid, laid_again}
+use Rattle.likeness.proofs.Laying.{level_laid, laid_pairs_again}
 use Rattle.likeness.proofs.Turning.{LevelsTo}
 use Rattle.likeness.proofs.Settling.{Unsettled, level_to_0, unsettled_start, unsettled_on, unsettled_below, unsettled_needs_more, settled_by_level, settled_by_closing}
 
@@ -61,7 +61,7 @@ module _ {m : Meaning} {p q limit : ℕ} {d : List ℕ} {r : ℕ} {levels : List
     next_sheet : after ≡ laid (level_sheet m (suc r)) d
     next_sheet =
         after_is ∙ ap (λ c. laid (level_sheet c (suc r)) levels) o_is ∙ ap (laid (level_sheet m (suc r))) running.sheet
-        ∙ laid_again m.count (level_to m (suc r)) (level_to m r) d
+        ∙ laid_pairs_again m.count (level_to m (suc r)) (level_to m r) d
 
     given_here : given ≡ some_level_after m r
     given_here = given_is ∙ ap (λ c. some_level_after c r) o_is

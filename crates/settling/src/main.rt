@@ -7,7 +7,7 @@ mod lists;
 
 use charts::move_list::MoveList;
 use dialogues::chain::chain;
-use dialogues::checked::Checked;
+use dialogues::checked::{Checked, Size, Verdict};
 use likeness::rounds::settle;
 use lists::both_versions;
 use std::alloc::Global;
@@ -68,10 +68,9 @@ fn main(rt: HostRuntime) -> io::Result<()> {
         count: 9,
         moves: &both_versions(),
     };
-    rt.println(Checked {
-        title: "Both versions",
-        list,
-    })?;
+    let title = "Both versions";
+    rt.println(Size(Checked { title, list }))?;
+    rt.println(Verdict(list))?;
     let mut moves = [0u32; 81];
     let mut levels = [0u8; 81];
     tell_settled(&rt, list, 0, 4, &mut moves, &mut levels)?;

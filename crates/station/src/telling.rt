@@ -2,7 +2,7 @@
 use charts::chart::Chart;
 use charts::move_list::MoveList;
 use dialogues::act::Act;
-use dialogues::checked::Checked;
+use dialogues::checked::{Checked, Size, Verdict};
 use layers::hide::Hide;
 use layers::quiet::Quiet;
 use std::alloc::Global;
@@ -38,9 +38,10 @@ fn print_chart<C: Chart>(rt: &impl Print, title: &str, chart: &C) -> io::Result<
     Ok(())
 }
 
-// Prints what becomes of a list: its check, and its chart.
+// Prints what becomes of a list: its size, its check, and its chart. Each line is printed before the next is made.
 pub(crate) fn tell(rt: &impl Print, title: &str, list: MoveList) -> io::Result<()> {
-    rt.println(Checked { title, list })?;
+    rt.println(Size(Checked { title, list }))?;
+    rt.println(Verdict(list))?;
     print_chart(rt, "The chart", &list.chart())
 }
 

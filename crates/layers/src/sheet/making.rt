@@ -1,5 +1,5 @@
 // The sheets that a quiet chart is made of.
-ghost use Rattle.std.specs.Prelude.{◌≡◌, ℕ, ◌*◌, ◌/◌, ◌%◌, ◌<◌, ◌≤◌, false, ◌&&◌, List, [], map, length, IfOk, vec_len, slice_index, slice_index_or};
+ghost use Rattle.std.specs.Prelude.{◌≡◌, ℕ, ◌*◌, ◌/◌, ◌%◌, ◌<◌, ◌≤◌, false, ◌&&◌, ◌||◌, List, [], map, length, IfOk, vec_len, slice_index, slice_index_or};
 ghost use Rattle.std.specs.List.{range_with_len};
 ghost use Rattle.closure.specs.Closure.{reaches, marks};
 ghost use Rattle.words.specs.Bits.{bit, word_of};
@@ -73,16 +73,29 @@ impl Sheet {
         requires q_below { q < self.now.count }
         ensures value { result ≡ word_of (λ a. product self.now.count self.now.words.items second.now.words.items p a q) }
     {
-        (0..self.count).fold(0, |labels, r| {
-            union(labels, self.labels_through(second, p, r, q))
-        })
+        (0..self.count).fold(
+            0,
+            |labels, r| -> u32
+                requires as_many { second.now.count ≡ self.now.count }
+                requires p_below { p < self.now.count }
+                requires r_below { r < self.now.count }
+                requires q_below { q < self.now.count }
+                ensures joined { result ≡ word_of (λ a. bit labels a || bit (word_of (λ b. bit ((sheet_chart self.entry.now.count self.entry.now.words.items).word p r) b && bit ((sheet_chart second.entry.now.count second.entry.now.words.items).word r q) b)) a) }
+            { union(labels, self.labels_through(second, p, r, q)) },
+        )
     }
 
-    // The labels by which p moves in this sheet to r, and r in the second to q.
+    // The labels by which p moves in this sheet to r, and r in the second to q. Both words are read at their places, by the one count: with a
+    // test of the bounds at each, a quiet chart takes up to twice as long.
     fn labels_through(&self, second: &Sheet, p: usize, r: usize, q: usize) -> u32
+        requires as_many { second.now.count ≡ self.now.count }
+        requires p_below { p < self.now.count }
+        requires r_below { r < self.now.count }
+        requires q_below { q < self.now.count }
         ensures value { result ≡ word_of (λ a. bit ((sheet_chart self.now.count self.now.words.items).word p r) a && bit ((sheet_chart second.now.count second.now.words.items).word r q) a) }
     {
-        intersection(self.word(p, r), second.word(r, q))
+        let n = self.count;
+        intersection(self.words[p * n + r], second.words[r * n + q])
     }
 }
 

@@ -8,6 +8,6 @@ pub returns-clause-by_sameness_alone : goal.returns-clause-by_sameness_alone
 returns-clause-by_sameness_alone g c = λ y e.
     let xs = c.args.records.now in
     let w = c.args.wanted.now in
-    let value : c.position.result ≡ position (λ x. g.T.PartialEq.eq x w) xs =
-    position_from_yields_List (λ x. g.T.PartialEq.eq x w) _ _ _ c.position.ensures.ran (YieldsList-from_slice xs cc) (λ x b q call. (search rules, search rules)) in
-    value ∙ by_sameness g.T.PartialEq.eq g.met.T.Eq.laws xs w y e
+    let value : c.position.result ≡ position (λ x. g.T.Same.same x w) xs =
+    position_from_yields_List (λ x. g.T.Same.same x w) _ _ _ c.position.ensures.ran (YieldsList-from_slice xs cc) (λ x b q call. (search rules, search rules)) in
+    value ∙ by_sameness g.T.Same.same g.T.Same.lawful xs w y e

@@ -1,4 +1,4 @@
-use Rattle.std.proofs.Common.{◌≡◌, min, Some, None, Err, sym, ap, ◌∙◌, rules}
+use Rattle.std.proofs.Common.{◌≡◌, min, Some, None, Err, ⊎_elim, inl, inr, sym, ap, ◌∙◌, rules}
 use Rattle.charts.specs.Refusals.{bare, answer_told}
 use Rattle.likeness.specs.Refusals.{told_by}
 use Rattle.layers.specs.Sheet.{sheet_chart}
@@ -73,7 +73,7 @@ pub returns-then-p-n : goal.returns-then-p-n
 returns-then-p-n g c =
     let m = g.C.Chart.meaning c.args.chart.now in
     with_laws (call_facts m c.args.p c.args.q c.args.limit c.args.moves.now c.args.levels.now (Some (bare 11))
-    (refused_states m c.count-n.result c.count-n.ensures.answers_the_count c.args.p c.args.q c.args.moves.now c.args.levels.now c.then-p-n.either))
+    (refused_states m c.count-n.result c.count-n.ensures.answers_the_count c.args.p c.args.q c.args.moves.now c.args.levels.now (⊎_elim inl (λ h. inr h.1) c.then-p-n.either)))
 
 pub returns-then-levels-n : goal.returns-then-levels-n
 returns-then-levels-n g c =
