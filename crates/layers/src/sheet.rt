@@ -25,7 +25,8 @@ impl<T: Copy> LentSheet<'_, T> {
         if p >= self.count || q >= self.count {
             return None;
         }
-        Some(self.values[p * self.count + q])
+        let place = p * self.count + q;
+        Some(self.values[place])
     }
 }
 
