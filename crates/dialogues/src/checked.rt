@@ -1,7 +1,7 @@
 // What is told of a list and its check.
 ghost use Rattle.std.specs.Prelude.{Some};
 ghost use Rattle.charts.specs.MoveList.{faulty};
-ghost use Rattle.dialogues.specs.Checked.{size_text, verdict_text, text_of};
+ghost use Rattle.dialogues.specs.Checked.{size_line, verdict_text, text_of};
 
 use charts::move_list::MoveList;
 use std::fmt;
@@ -22,7 +22,7 @@ pub struct Size<'a>(pub Checked<'a>);
 pub struct Verdict<'a>(pub MoveList<'a>);
 
 impl fmt::Display for Size<'_> {
-    ghost output = { λ size. Some (size_text size.0) };
+    ghost output = { λ size. Some (size_line size.0) };
 
     fn fmt<W: fmt::Write>(&self, f: &mut fmt::Formatter<W>) -> fmt::Result {
         let title = self.0.title;
