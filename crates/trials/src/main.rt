@@ -45,11 +45,8 @@ fn told_move(from: usize, label: usize, to: usize) -> anyhow::Result<Move> {
 
 // The moves that are told by three numbers each; numbers left over tell none.
 fn moves_of(alloc: Global, told: &[usize]) -> anyhow::Result<Vec<Move>> {
-    told.chunks(3)
-        .filter_map(|part| match part {
-            &[from, label, to] => Some(told_move(from, label, to)),
-            _ => None,
-        })
+    told.chunks_exact(3)
+        .map(|part| told_move(part[0], part[1], part[2]))
         .try_collect(alloc)
 }
 
