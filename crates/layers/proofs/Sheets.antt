@@ -192,10 +192,10 @@ module _ (n : ℕ) (few : n ≤ 128) (words : List ℕ) where
       (Decides-and _ _ (Decides-and _ _ (Decides-ltb p n) (Decides-ltb q n)) (λ e. e, λ e. e)))
 
 -- label by label: a word read at its place in a sheet of n words a row, where n is told as k
-pub held : (n k : ℕ) → n ≡ k → n ≤ 128 → (words : List ℕ) → length words ≡ n * n → (p q w : ℕ) → p < n → q < n → w ≡ get_or words (p * k + q) w
+pub sheet_chart_read : (n k : ℕ) → n ≡ k → n ≤ 128 → (words : List ℕ) → length words ≡ n * n → (p q w : ℕ) → p < n → q < n → w ≡ get_or words (p * k + q) w
     → (a : ℕ) → a < 32 → bit w a ≡ has_move (sheet_chart n words) p a q
 unfolding moves_in
-held n k same few words full p q w hp hq is a ha =
+sheet_chart_read n k same few words full p q w hp hq is a ha =
     let within = place_below n p q hp hq in
     ap (λ v. bit v a) (is ∙ ap (λ j. get_or words (p * j + q) w) (sym same) ∙ get_or_default words (p * n + q) w 0 (omega (arith, within, full)))
     ∙ sym (sheet_chart_has n few words p a q hp hq ha)

@@ -45,12 +45,17 @@ fn told_move(from: usize, label: usize, to: usize) -> anyhow::Result<Move> {
 
 // The moves that are told by three numbers each; numbers left over tell none.
 fn moves_of(alloc: Global, told: &[usize]) -> anyhow::Result<Vec<Move>> {
-    told.chunks_exact(3)
-        .map(|part| told_move(part[0], part[1], part[2]))
+    told.chunks(3)
+        .filter_map(|part| match part {
+            &[from, label, to] => Some(told_move(from, label, to)),
+            _ => None,
+        })
         .try_collect(alloc)
 }
 
-// What settling answers, as it is printed.
+// What settling answers, as it is printed. Neither this nor `run` is inlined: within `main` the loops of a long list lay so that they took up to
+// 1.7 times as long.
+#[inline(never)]
 fn answer<C: Chart>(
     alloc: Global,
     chart: &C,
@@ -68,6 +73,7 @@ fn answer<C: Chart>(
 }
 
 // Runs the trial that a line tells; a line of fewer than four numbers tells none.
+#[inline(never)]
 fn run(rt: &impl Print, alloc: Global, line: &str, sheets: &mut Sheets) -> anyhow::Result<()> {
     let told = numbers(alloc, line)?;
     let &[count, p, q, limit, ref rest @ ..] = told.as_slice() else {

@@ -86,7 +86,7 @@ impl Sheet {
     }
 
     // The labels by which p moves in this sheet to r, and r in the second to q. Both words are read at their places, by the one count: with a
-    // test of the bounds at each, a quiet chart takes up to twice as long.
+    // test of the bounds at each, a quiet chart takes nearly twice the instructions.
     fn labels_through(&self, second: &Sheet, p: usize, r: usize, q: usize) -> u32
         requires as_many { second.now.count ≡ self.now.count }
         requires p_below { p < self.now.count }
